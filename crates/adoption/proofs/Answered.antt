@@ -1,4 +1,4 @@
--- What holds of a database, by what is taken of it.
+-- The facts about a database that follow from the result of opening it.
 use Rattle.std.proofs.Common.{◌≡◌, Err, IfErr, IfOk, Ok, Result, subst, sym}
 use Rattle.std.specs.Result.{IsErrAnd}
 use Rattle.sqlite.specs.Effect.{Database}
@@ -46,7 +46,7 @@ module _ (db : Database) where
   found_damaged (Ok Unsound) f is finding same = finding
   found_damaged (Err e) f is finding same = absurd (cc (is, same))
 
--- an error's fault is told with its cause
+-- A fault is reported with the cause of its error.
 pub found_caused : {S : Type 0} (g : Ghosts S) (old new : State) (r : Result Found Error) (f : OpenFault) → rows_taken r ≡ Err f → IfErr r (HadCause g old new)
     → (own : StoreFault) → f ≡ fault.Store own → IsCaused g old new own
 found_caused g old new (Ok (Sound w given)) f is had own reported = absurd (cc is)
@@ -54,7 +54,7 @@ found_caused g old new (Ok NotOurs) f is had own reported = absurd (cc (is, repo
 found_caused g old new (Ok Unsound) f is had own reported = absurd (cc (is, reported))
 found_caused g old new (Err e) f is had own reported = let told : f ≡ fault.Store (fault_for e) = cc is in caused g old new e f own told reported had
 
--- what a `?` returns
+-- the result if `?` returns early with an error
 pub passed : {X : Type 0} (P : OpenFault → Type 0) (r : Result X OpenFault) (f : OpenFault) → IsErrAnd r (λ g. g ≡ f) → P f → IfErr r P
 passed P (Ok x) f is holds = tt
 passed P (Err g) f is holds = subst P (sym is) holds

@@ -1,4 +1,4 @@
--- From an error's cause to that of the fault that it is reported as.
+-- The cause of an error is also the cause of the fault that reports it.
 use Rattle.std.proofs.Common.{◌≡◌, [], Err, IfErr, List, Ok, Result, arith, inl, ℕ}
 use Rattle.std.specs.Result.{IsErrAnd}
 use Rattle.sqlite.specs.Held.{Held, state}
@@ -17,12 +17,12 @@ module _ {S : Type 0} (g : Ghosts S) (old new : State) where
   pub caused : (e : Error) (fault : OpenFault) (own : StoreFault) → fault ≡ Store (fault_for e) → fault ≡ Store own → HadCause g old new e → IsCaused g old new own
   caused e fault own is reported had = let same : own ≡ fault_for e = cc (is, reported) in (e, same, had)
 
-  -- what a `?` returns
+  -- the result if `?` returns early with an error
   pub passed_fault : {X : Type 0} (r : Result X OpenFault) (e : Error) → IsErrAnd r (λ fault. fault ≡ Store (fault_for e)) → HadCause g old new e → IfErr r (λ fault. (own : StoreFault) → fault ≡ Store own → IsCaused g old new own)
   passed_fault (Ok x) e is had = tt
   passed_fault (Err fault) e is had = λ own reported. caused e fault own is reported had
 
--- a statement that is not prepared
+-- a statement that isn't prepared
 module _ {S : Type 0} (g : Ghosts S) (old new : Held S) where
   pub unprepared_had : (sql : List ℕ) (e : Error) → IsNotRun (state g old) (state g new) sql [] e → HadCause g (state g old) (state g new) e
   unfolding FailsToQuery

@@ -1,4 +1,4 @@
--- What an audit finds, by the version that was found and the rows that were read.
+-- The result of an audit, from the version that was found and the rows that were read.
 use Rattle.std.proofs.Common.{◌≡◌, ◌↔◌, IsTrue, Option, Some, None, Result, Ok, Err, IfOk, MatchOption, sym, subst}
 use Rattle.sqlite.specs.Effect.{Database}
 use Rattle.sqlite.specs.State.{State}
@@ -28,7 +28,7 @@ none_read v db is none = (
   λ w held. none (image held.0) (sound_fit held.0 held.1) (subst (λ x. HoldsRows x (image held.0) db) (one_version w v db held.2.version is.1) held.2),
 )
 
--- the rows that were read are those of sound contents exactly where the whole rows are
+-- The rows that were read are the rows of sound contents if and only if the complete rows are.
 module _ (v : Version) (db : Database) (read : HeldRows) (is : IsForAudit v db read) where
   unsound_read : ¬ AreOfSoundContents read.tables → (w : Version) → ¬ HoldsSoundRows w db
   unsound_read none w sound =
@@ -42,18 +42,18 @@ module _ (v : Version) (db : Database) (read : HeldRows) (is : IsForAudit v db r
     with_bytes_sound is.rows (subst AreOfSoundContents is.tables sound),
   )
 
--- these were
+-- rows were read
 rows_judged : (v : Version) (db : Database) (read : HeldRows) (found : Found) → IsOfVersion v db → IsForAudit v db read → Judges v read found → IsFinding found db
 rows_judged v db read NotOurs of is judged = absurd judged
 rows_judged v db read Unsound of is judged = ((v, of), unsound_read v db read is judged)
 rows_judged v db read (Sound w given) of is judged = subst (λ x. HoldsAsRead x given db) (sym judged.0) (sound_read v db read is given judged.1 judged.2 judged.3)
 
--- ---- of one state, and a state after it that shows the same
+-- ---- the same state, and a later state that shows the same database
 
 abbrev pub IsVersion : Database → Version → Type 0
 IsVersion db v = IsOfVersion v db × AreThere db.schema (schema_of v).tables
 
--- the tables are those of this version
+-- The tables are the tables of version `v`.
 pub version_is : (db : Database) (Refused : Type 0) (given : Option Version) (v : Version) → given ≡ Some v → MatchOption given Refused (IsVersion db) → IsVersion db v
 version_is db Refused given v is value = subst (λ x. MatchOption x Refused (IsVersion db)) is value
 

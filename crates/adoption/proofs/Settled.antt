@@ -1,4 +1,4 @@
--- Tables that stay as they are, or are made anew.
+-- Tables that are unchanged or rebuilt.
 use Rattle.std.proofs.Common.{◌≡◌, ◌∙◌, ℕ, List, [], IsTrue, Option, Some, MatchOption, Result, Ok, Err, OnErr, OnOk, inl, inr, refl, sym, ap, subst, arith}
 use Rattle.sqlite.specs.Effect.{Database, IsDatabase}
 use Rattle.sqlite.specs.Held.{Held, state}
@@ -24,7 +24,8 @@ use Rattle.adoption.specs.Adopts.{Settles}
 use Rattle.adoption.specs.Comes.{Comes}
 use Rattle.adoption.specs.Reading.{IsReading}
 
--- nothing is left that was not, and a crash before left what was committed
+-- A crash after the call leaves nothing that it could not leave before. Before the call, it left
+-- only the committed database.
 only_now : {S : Type 0} (g : Ghosts S) (law : (s : S) (db : Trees) → IsTrue (g.view s).is_open → g.recovers s db → db ≡ (g.view s).committed) (old new : Held S)
     → IsTrue (state g old).is_open → (state g old).now ≡ (state g old).committed → HasCleanDisk (state g new) → Survives (state g old) (state g new) (λ _. ⊥)
     → (trees : Trees) → (state g new).may_leave trees → trees ≡ (state g old).now.trees
@@ -34,11 +35,12 @@ only_now g law old new live settled clean survives trees may =
       | inr none ↦ absurd none
     ]
 
--- the law that our tables, standing as they are made, hold the image of the rows that they hold
+-- the lemma that a database with the tables as the store creates them has the image of the rows
+-- that it holds
 abbrev pub ImageLaw : Type 0
 ImageLaw = (v : Version) (t : Tables) (db : Database) → HoldsRows v t db → IsDatabase db → StandAsMade db → IsImage t db
 
--- they stay, and so does the connection
+-- The tables and the connection are unchanged.
 module _ {S : Type 0} (g : Ghosts S) (law : (s : S) (db : Trees) → IsTrue (g.view s).is_open → g.recovers s db → db ≡ (g.view s).committed) (old new : Held S) (v : Version) (read : HeldRows)
     (image : ImageLaw) (settled : IsTrue (state g old).is_open → (state g old).now ≡ (state g old).committed) (live : IsLive (state g old)) (clean : HasCleanDisk (state g new))
     (ours : (state g old).now.schema ≡ our_schema) (apart : IsTrue read.apart) (kept : IsKept (state g old) (state g new)) (survives : Survives (state g old) (state g new) (λ _. ⊥)) where
@@ -55,7 +57,7 @@ module _ {S : Type 0} (g : Ghosts S) (law : (s : S) (db : Trees) → IsTrue (g.v
         is_open = shown;
       }
 
--- a connection that was asked for nothing shows what it showed
+-- A connection on which nothing was executed shows the same database as before.
 module _ (old new : State) (settled : IsTrue old.is_open → old.now ≡ old.committed) where
   pub unchanged_kept : IsUnchanged old new → IsKept old new
   unchanged_kept same = record { was_open = λ _. same.0.was_open; now_is = λ _. same.0.now_is; committed_is = λ _. same.0.committed_is }
@@ -72,12 +74,12 @@ module _ (old new : State) (settled : IsTrue old.is_open → old.now ≡ old.com
   not_run_kept sql e (inl none) = unchanged_kept none.1
   not_run_kept sql e (inr failed) = rolled_kept failed.3
 
--- rows that were read once more, with the bytes of their replies
+-- rows that were read again, with the bytes of replies
 pub read_whole : (v : Version) (read : HeldRows) (db : Database) (found : Option Tables) (all : Tables) → found ≡ Some all
     → ((w : Version) (t : Tables) → HoldsRows w t db → HaveSameRows read.tables (without_reply_bytes t) → MatchOption found ⊥ (λ rows. HaveSameRows rows t)) → (t : Tables) → IsReading v t db read → HaveSameRows all t
 read_whole v read db found all some value t is = subst (λ x. MatchOption x ⊥ (λ rows. HaveSameRows rows t)) some (value v t is.rows is.same)
 
--- these whole rows are those of which this was read, and our tables are made anew with them
+-- the complete rows for `read`, with which the tables are rebuilt
 module _ (v : Version) (read : HeldRows) (all : Tables) (old mid new : State) (kept : HasCleanDisk mid → IsKept old mid) (live : IsLive old)
     (whole : HasCleanDisk mid → (t : Tables) → IsReading v t old.now read → HaveSameRows all t) where
   turned : HasCleanDisk mid → IsTrue mid.is_open → (db : Database) → Remakes v all mid.now db → Settles v read old.now db

@@ -1,4 +1,4 @@
--- From the rows that a database holds to the contents that are taken.
+-- From the rows that a database holds to the contents of the opened store.
 use Rattle.std.proofs.Common.{IsTrue, subst, sym, arith}
 use Rattle.sqlite.specs.Effect.{Database}
 use Rattle.sqlite.specs.State.{HasCleanDisk, State, Survives}
@@ -17,7 +17,7 @@ use Rattle.adoption.specs.Comes.{Comes}
 use Rattle.adoption.specs.Reading.{IsReading}
 use Rattle.adoption.specs.Unwritten.{LeavesOurs}
 
--- the law that a database holds rows in any order
+-- the lemma that a database holds its rows in any order
 abbrev pub OrderLaw : Type 0
 OrderLaw = (v : Version) (t u : Tables) (db : Database) → HaveSameRows t u → HoldsRows v u db → HoldsRows v t db
 
@@ -34,7 +34,7 @@ adopted law v read old new found settles =
       stands = same_rows (image c) t new same (settles t found.1);
     }
 
--- an audit, and then the rows settle
+-- an audit, followed by `settle`
 module _ (law : OrderLaw) (v : Version) (read : HeldRows) (old mid new : State) (kept : HasCleanDisk mid → IsKept old mid) (found : HasCleanDisk mid → HoldsAsRead v read old.now) where
   turned : HasCleanDisk mid → IsTrue mid.is_open → (db : Database) → Settles v read mid.now db → Adopts old.now db
   turned clean shown db settles = adopted law v read old.now db (found clean) (subst (λ (d : Database). Settles v read d db) ((kept clean).now_is shown) settles)
@@ -54,6 +54,6 @@ module _ (law : OrderLaw) (v : Version) (read : HeldRows) (old mid new : State) 
       survives_then old mid new (λ _. ⊥) (IsLeft (Settles v read) mid) (IsLeft Adopts old) (λ _ db none. absurd none)
       (λ clean db it. let early : HasCleanDisk mid = omega (arith, last.clean) in ((kept early).was_open it.0, (it.1.0, turned early it.0 it.1.0 it.1.1, it.1.2))) before last
 
-  -- so the rows settle where they stand as this was read of them
+  -- `settle` leaves the trees unchanged if the database holds the rows that were read.
   pub leaves_as_read : ((t : Tables) → IsReading v t mid.now read → LeavesOurs mid new) → HasCleanDisk mid → IsTrue mid.is_open → LeavesOurs mid new
   leaves_as_read leaves clean live = let it = found clean in leaves it.0 (subst (λ (d : Database). IsReading v it.0 d read) (sym ((kept clean).now_is live)) it.1)

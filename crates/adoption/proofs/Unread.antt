@@ -1,5 +1,5 @@
--- Rows are those of sound contents exactly where they are without the bytes of their replies, since
--- no rule looks at these.
+-- Rows are the rows of sound contents if and only if they are without the bytes of replies, because
+-- no audit rule depends on these bytes.
 use Rattle.std.proofs.Common.{◌≡◌, ◌∙◌, ◌<◌, ℕ, false, List, [], ◌∷◌, length, map, slice_index_or, IsTrue, refl, sym, ap, subst, arith}
 use Rattle.std.specs.Prelude.{All, AllPairs}
 use Rattle.std.specs.List.{swap}
@@ -50,7 +50,7 @@ module _ {X Y : Type 0} (f : X → Y) where
   map-swaps xs [] = refl
   map-swaps xs (p ∷ ps) = map-swap (apply_swaps xs ps) p.0 p.1 ∙ ap (λ ys. swap ys p.0 p.1) (map-swaps xs ps)
 
-  -- an order of what f gives of elements is one of these
+  -- Every order of the mapped elements is the image of an order of the elements.
   lifted : (xs : List X) (ys : List Y) → IsPermutation (map f xs) ys → (zs : List X) × IsPermutation xs zs × (map f zs ≡ ys)
   lifted xs ys same = (
     apply_swaps xs same.moves,

@@ -1,4 +1,4 @@
--- Calls that leave each tree as it is.
+-- Calls that leave every tree unchanged.
 use Rattle.std.proofs.Common.{◌≡◌, false, IsTrue, Result, Ok, Err, OnErr, OnOk, inl, inr, sym, subst, arith}
 use Rattle.std.proofs.lemmas.Bool.{cases_Bool}
 use Rattle.sqlite.specs.Effect.{Database}
@@ -9,7 +9,7 @@ use Rattle.table_reads.proofs.After.{kept_then}
 use Rattle.adoption.specs.Comes.{Comes}
 use Rattle.adoption.specs.Unwritten.{LeavesOurs, LeavesTrees}
 
--- a read leaves each tree
+-- A read leaves every tree unchanged.
 pub only_read : (old new : State) → (HasCleanDisk new → IsKept old new) → Survives old new (λ _. ⊥) → HasCleanDisk new → LeavesTrees old new
 only_read old new kept survives clean = record {
   kept = kept clean;
@@ -17,7 +17,7 @@ only_read old new kept survives clean = record {
 }
 
 module _ (R : Database → Database → Type 0) (old mid new : State) (kept : HasCleanDisk mid → IsKept old mid) (before : Survives old mid (λ _. ⊥)) where
-  -- where a fault has shut the connection, what comes next leaves each tree
+  -- After a fault closes the connection, the next call leaves every tree unchanged.
   shut_leaves_trees : {E : Type 0} (r : Result (Unit {0}) E) → mid.is_open ≡ false → OnOk r (Comes R mid new) → OnErr r (IsKept mid new) → Survives mid new (IsLeft R mid) → HasCleanDisk new → LeavesTrees mid new
   shut_leaves_trees r shut ok err last clean = record {
     kept = at r ok err;
@@ -28,7 +28,7 @@ module _ (R : Database → Database → Type 0) (old mid new : State) (kept : Ha
       at (Ok u) ok err = absurd (let live = ok.was_open in cc)
       at (Err e) ok err = err
 
-  -- a read, and then what leaves our tables
+  -- a read, followed by a call that leaves the tables of the current schema unchanged
   pub leaves_then : {E : Type 0} (r : Result (Unit {0}) E) → (HasCleanDisk new → OnOk r (Comes R mid new)) → (HasCleanDisk new → OnErr r (IsKept mid new)) → Survives mid new (IsLeft R mid)
       → (HasCleanDisk mid → IsTrue mid.is_open → LeavesOurs mid new) → LeavesOurs old new
   leaves_then r ok err last leaves clean stand =

@@ -1,4 +1,4 @@
--- What is taken, and what is made of it.
+-- The databases that are opened, and the result.
 use Rattle.sqlite.specs.Effect.{Database}
 use Rattle.job_facts.specs.Contents.{AreSound, Contents}
 use Rattle.table_rows.specs.Tables.{Tables}
@@ -9,11 +9,13 @@ use Rattle.table_reads.specs.Holding.{HoldsRows}
 use Rattle.table_reads.specs.declared.tables.HeldRows.{HeldRows}
 use Rattle.adoption.specs.Reading.{IsReading}
 
--- the rows of which this was read, in the tables of this version, come to stand in our own
+-- The rows that the audit read from the tables of version `v` are in the tables of the current
+-- schema.
 abbrev pub Settles : Version → HeldRows → Database → Database → Type 0
 Settles v read old new = (t : Tables) → IsReading v t old read → IsImage t new
 
--- the rows of sound contents, in the tables of some version, come to stand in our own
+-- The rows of sound contents, in the tables of some schema version, are in the tables of the
+-- current schema.
 pub record Adopts (old new : Database) : Type 0 where
   pub version : Version
   pub contents : Contents

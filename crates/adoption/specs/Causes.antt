@@ -1,4 +1,4 @@
--- Why a call reports the store's own fault.
+-- The causes of a fault of the store.
 use Rattle.std.specs.Prelude.{◌≡◌}
 use Rattle.sqlite.specs.State.{State}
 use Rattle.sqlite.specs.Store.{Ghosts}
@@ -7,9 +7,10 @@ use Rattle.job_facts.specs.declared.store.StoreFault.{StoreFault}
 use Rattle.sql_base.specs.Causes.{HadCause}
 use Rattle.adoption.specs.Faults.{fault_for}
 
--- It is the fault of some error of SQLite, with its cause: an error of the disk, as that it is full,
--- is reported only where, at a moment of the call, the disk had failed or refused since the call
--- began, and had blamed that last, where it keeps what it blamed. No trace is kept of refused
--- memory, nor of what else is no error of the disk, so that those have no cause to show.
+-- The fault is the report of an error `e` of SQLite, with its cause. A disk error, such as a full
+-- disk, is reported only if, in some state during the call, the disk had failed or refused an
+-- operation since the call began. The error is the last one that the store recorded, if it records
+-- errors. No trace is kept of a failed allocation or of another error that isn't a disk error, so
+-- these need no cause.
 abbrev pub IsCaused : {S : Type 0} → Ghosts S → State → State → StoreFault → Type 0
 IsCaused g old new own = (e : Error) × (own ≡ fault_for e) × HadCause g old new e

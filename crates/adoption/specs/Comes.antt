@@ -1,11 +1,11 @@
--- What a call makes of a database where it may change nothing at all.
+-- The effect of a call on a database that may already be as required.
 use Rattle.std.specs.Prelude.{◌≡◌, IsTrue}
 use Rattle.sqlite.specs.Effect.{Database}
 use Rattle.sqlite.specs.State.{State}
 use Rattle.sqlite.specs.Tree.{Trees}
 
--- the connection is open and shows what is made, and a crash leaves that and nothing else; `R`
--- relates the database before to the one made
+-- The connection is open and shows the new database, and a crash leaves exactly this database. `R`
+-- relates the database before to the new one.
 pub record Comes (R : Database → Database → Type 0) (old new : State) : Type 0 where
   pub db : Database
   pub made : R old.now db

@@ -1,4 +1,4 @@
--- What an audit finds in a database.
+-- The result of the audit of a database.
 use Rattle.std.specs.Prelude.{◌≡◌}
 use Rattle.sqlite.specs.Effect.{Database}
 use Rattle.sql_tables.specs.declared.versions.Version.{Version}
@@ -11,11 +11,11 @@ use Rattle.adoption.specs.Reading.{IsReading}
 use Rattle.adoption.specs.declared.auditing.Found.{Found}
 use Rattle.adoption.specs.declared.auditing.Found.TheVariants.{NotOurs, Sound, Unsound}
 
--- the rows are those of sound contents
+-- The rows are the rows of sound contents.
 abbrev pub AreOfSoundContents : Tables → Type 0
 AreOfSoundContents t = (c : Contents) × AreSound c × HaveSameRows t (image c)
 
--- the rows that the database holds are those of sound contents, and this was read of them
+-- The database holds the rows of sound contents, and `read` was read from them.
 abbrev pub HoldsAsRead : Version → HeldRows → Database → Type 0
 HoldsAsRead v read db = (t : Tables) × IsReading v t db read × AreOfSoundContents t
 
@@ -24,8 +24,8 @@ IsFinding NotOurs db = (v : Version) → ¬ IsOfVersion v db
 IsFinding Unsound db = ((v : Version) × IsOfVersion v db) × ((v : Version) → ¬ HoldsSoundRows v db)
 IsFinding (Sound v read) db = HoldsAsRead v read db
 
--- rows of this version are those of sound contents, or not; where they are, they are given in
--- another order
+-- The rows of version `v` are the rows of sound contents, or not. If they are, the result has them
+-- in another order.
 abbrev pub Judges : Version → HeldRows → Found → Type 0
 Judges v read NotOurs = ⊥
 Judges v read Unsound = ¬ AreOfSoundContents read.tables

@@ -1,4 +1,4 @@
--- What was read of the rows that a database holds.
+-- The rows that the audit read from a database.
 use Rattle.std.specs.Prelude.{◌≡◌, ◌↔◌, IsTrue}
 use Rattle.sqlite.specs.Effect.{Database}
 use Rattle.sql_tables.specs.Tables.{our_schema}
@@ -9,8 +9,9 @@ use Rattle.table_reads.specs.Rowids.{HasRowidsApart}
 use Rattle.table_reads.specs.Unread.{without_reply_bytes}
 use Rattle.table_reads.specs.declared.tables.HeldRows.{HeldRows}
 
--- the database holds these rows in the tables of this version, and they were read in some order,
--- without the bytes of their replies; of our own tables it was read whether their rowids are apart
+-- The database holds the rows `t` in the tables of version `v`, and `read` has them in some order,
+-- without the bytes of replies. For the current schema, `read` also has whether all rowids in each
+-- table are different.
 pub record IsReading (v : Version) (t : Tables) (db : Database) (read : HeldRows) : Type 0 where
   pub rows : HoldsRows v t db
   pub same : HaveSameRows read.tables (without_reply_bytes t)

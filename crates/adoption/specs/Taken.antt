@@ -1,4 +1,4 @@
--- What is taken of a database, by what an audit found.
+-- The result of opening a database, from the result of its audit.
 use Rattle.std.specs.Prelude.{Result, Ok, Err}
 use Rattle.sqlite.specs.declared.error.Error.{Error}
 use Rattle.sql_tables.specs.declared.versions.Version.{Version}
@@ -9,8 +9,8 @@ use Rattle.adoption.specs.declared.auditing.Found.TheVariants.{NotOurs, Sound, U
 use Rattle.adoption.specs.declared.faults.OpenFault.{OpenFault}
 use Rattle.adoption.specs.declared.faults.OpenFault.TheVariants as fault
 
--- the rows of sound contents; and else refusal 81 by its tables, 82 by its rows, or the fault of the
--- error with which the audit failed
+-- the rows of sound contents; otherwise refusal 81 for its tables, refusal 82 for its rows, or the
+-- fault for the error of the audit
 abbrev pub rows_taken : Result Found Error → Result (Version × HeldRows) OpenFault
 rows_taken (Ok (Sound version rows)) = Ok (version, rows)
 rows_taken (Ok NotOurs) = Err fault.NotOurs

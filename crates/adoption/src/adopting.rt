@@ -1,4 +1,4 @@
-//! A database is taken, or refused.
+//! Opens or refuses a database.
 ghost use Rattle.std.specs.Prelude.{◌≡◌, false, IfErr, OnErr, OnOk};
 ghost use Rattle.sqlite.specs.Held.{state};
 ghost use Rattle.sqlite.specs.State.{HasCleanDisk, Survives};
@@ -20,8 +20,9 @@ use sqlite::{Alter, Connection, Error};
 use std::alloc::Global;
 use table_reads::HeldRows;
 
-// The rows that are taken by what an audit found, or why none are: each of the two refusals stands
-// for just what was found, and a fault for the audit's error.
+// Returns the rows that the audit found to be sound, or the reason to refuse the database. Each of
+// the two refusals belongs to exactly one result of the audit, and a fault to an error of the
+// audit.
 fn rows_taken(audited: Result<Found, Error>) -> Result<(Version, HeldRows), OpenFault>
     ensures { result ≡ rows_taken audited }
 {
@@ -33,10 +34,18 @@ fn rows_taken(audited: Result<Found, Error>) -> Result<(Version, HeldRows), Open
     }
 }
 
-/// Takes a database whose tables, of any version, hold the rows of sound contents: they then stand
-/// in our own tables. Any other is refused, and stays as it is. Where our own tables stand as they
-/// are made, every tree stays. A crash leaves what it could leave before, or the same contents in
-/// our own tables.
+/// Opens a database that holds the rows of sound contents in the tables of any schema version.
+/// Afterwards the rows are in the tables of the current schema. If the tables are already exactly
+/// as the store creates them, no tree is changed. After a crash the database is as it could be
+/// before the call, or has the same contents in the tables of the current schema.
+///
+/// # Errors
+///
+/// After an error the database isn't changed.
+///
+/// - `NotOurs` if the tables aren't the tables of any schema version (refusal 81)
+/// - `Damaged` if the rows aren't the rows of sound contents (refusal 82)
+/// - `Store` if SQLite reports an error
 pub fn adopt<S: Alter>(alloc: Global, conn: &mut Connection<S>) -> Result<(), OpenFault>
     requires { conn.old.in_transaction ≡ false }
     ensures ok { HasCleanDisk (state S.Store conn.new) → OnOk result

@@ -1,4 +1,4 @@
-//! The audit of a database.
+//! Audits a database.
 ghost use Rattle.std.specs.Prelude.{◌≡◌, false, IfErr, IfOk, MatchOption};
 ghost use Rattle.sqlite.specs.Held.{state};
 ghost use Rattle.sqlite.specs.State.{HasCleanDisk, Survives, is_disk_error};
@@ -15,19 +15,20 @@ use sqlite::{Alter, Connection, Error};
 use std::alloc::Global;
 use table_reads::{HeldRows, read_for_audit, says};
 
-/// What an audit found.
+/// The result of an audit.
 #[derive(Drop)]
 pub(crate) enum Found {
-    /// The tables are those of no version: refusal 81.
+    /// The tables aren't the tables of any schema version (refusal 81).
     NotOurs,
-    /// They are, and their rows are not those of sound contents: refusal 82.
+    /// The tables are the tables of a schema version, but the rows aren't the rows of sound
+    /// contents (refusal 82).
     Unsound,
-    /// Their rows, in any order, are those of sound contents. The replies' asks and bodies are not
-    /// among what was read.
+    /// The rows, in any order, are the rows of sound contents. They were read without the request
+    /// bytes and bodies of replies.
     Sound { version: Version, rows: HeldRows },
 }
 
-// The tables' version, which their own row says too.
+// Returns the version whose tables the database has, if the row of `version` has its number.
 fn own_version<S: Alter>(alloc: Global, conn: &mut Connection<S>) -> Result<Option<Version>, Error>
     requires { conn.old.in_transaction ≡ false }
     ensures value { HasCleanDisk (state S.Store conn.new) → IfOk result (λ found. MatchOption found
@@ -51,7 +52,8 @@ fn own_version<S: Alter>(alloc: Global, conn: &mut Connection<S>) -> Result<Opti
     }
 }
 
-// No rule looks at a reply's ask or its body. No error is one of the disk.
+// Audits `rows`. No audit rule depends on the request bytes or the body of a reply. An error is
+// never a disk error.
 fn judged(alloc: Global, version: Version, mut rows: HeldRows) -> Result<Found, Error>
     ensures value { IfOk result (Judges version rows) }
     ensures cause { IfErr result (λ e. is_disk_error e ≡ false) }
@@ -63,9 +65,18 @@ fn judged(alloc: Global, version: Version, mut rows: HeldRows) -> Result<Found, 
     }
 }
 
-/// Whether a database holds the rows of sound contents, in our tables of any version, in any order
-/// and with nothing beside them but indices that are no keys. It reads each table once, and of
-/// replies neither ask nor body. Nothing is changed, and a crash leaves what it could leave before.
+/// Checks whether the database holds the rows of sound contents in the tables of any schema
+/// version. The tables and rows can be in any order, and the tables can have additional indexes
+/// that aren't unique. The database isn't changed, even by a crash.
+///
+/// Each table is read once, without the request bytes and bodies of replies. They aren't needed,
+/// because rows represent sound contents if and only if they do so without these bytes
+/// (`proofs/Unread.antt`).
+///
+/// # Errors
+///
+/// Returns the error of SQLite if a read or an allocation fails. Only tests show that the audit
+/// succeeds if nothing fails.
 pub(crate) fn audit<S: Alter>(alloc: Global, conn: &mut Connection<S>) -> Result<Found, Error>
     requires { conn.old.in_transaction ≡ false }
     ensures value { HasCleanDisk (state S.Store conn.new)

@@ -1,19 +1,20 @@
-//! Why a database is not taken.
+//! The reasons why a database isn't opened.
 ghost use Rattle.std.specs.Prelude.{◌≡◌};
 ghost use Rattle.adoption.specs.Faults.{fault_for};
 
 use job_facts::StoreFault;
 use sqlite::{Error, ErrorCode};
 
-/// Why no store was made over a database.
+/// The reason why no store was opened over a database.
 #[derive(Clone, Copy, Debug, PartialEq, Eq)]
 pub enum OpenFault {
-    /// Its tables are not as they must be, none where a store begins, and ours where one goes on:
-    /// refusal 81.
+    /// The tables aren't as required: a new store needs an empty database, and an existing store
+    /// needs the tables of a schema version (refusal 81).
     NotOurs,
-    /// Its tables are ours, and their rows are those of no sound contents: refusal 82.
+    /// The tables are the tables of a schema version, but the rows aren't the rows of sound
+    /// contents (refusal 82).
     Damaged,
-    /// The store's own fault.
+    /// A fault of the store itself.
     Store { fault: StoreFault },
 }
 
@@ -31,8 +32,8 @@ impl From<Error> for OpenFault {
     }
 }
 
-/// What a store says of SQLite's error. Rows of sound contents are refused nothing, so an error
-/// that says neither that memory is refused nor that the disk is full is one of the device.
+/// Returns the fault of a store for an error of SQLite. SQLite accepts all rows of sound contents,
+/// so an error other than out of memory or a full disk is a fault of the device.
 pub fn fault_of(error: Error) -> StoreFault
     ensures { result ≡ fault_for error }
 {

@@ -1,4 +1,4 @@
-//! A database whose tables hold the rows of sound contents is taken, and no other.
+//! Opens a database if its tables hold the rows of sound contents, and refuses any other.
 #![tactic(auto)]
 
 mod adopting;

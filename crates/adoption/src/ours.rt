@@ -1,4 +1,4 @@
-//! Whether a database has our tables as they are made.
+//! Checks whether a database has the tables as the store creates them.
 ghost use Rattle.std.specs.Prelude.{◌≡◌, ◌↔◌, false, IsTrue, MatchResult};
 ghost use Rattle.sqlite.specs.Held.{state};
 ghost use Rattle.sqlite.specs.State.{is_disk_error};
@@ -8,8 +8,9 @@ use sql_tables::{Version, has_our_tables, tables_of};
 use sqlite::{Alter, Connection, Error};
 use std::alloc::Global;
 
-/// Whether our own tables stand as they are made, so that they can stay; that their rowids are
-/// apart was read with their rows. Nothing is read here, and no error is one of the disk.
+/// Returns `true` if the tables are exactly as the store creates them and `apart` is `true`, so
+/// that they need not be rebuilt. `apart` was determined when the rows were read. This function
+/// reads no rows, and an error is never a disk error.
 pub(crate) fn can_stay<S: Alter>(
     alloc: Global,
     conn: &Connection<S>,

@@ -1,4 +1,4 @@
-//! Rows that a database holds come to stand in our own tables.
+//! Brings an audited database to the current schema.
 ghost use Rattle.std.specs.Prelude.{◌≡◌, false, IfErr, IsTrue, OnErr, OnOk};
 ghost use Rattle.sqlite.specs.Held.{state};
 ghost use Rattle.sqlite.specs.State.{HasCleanDisk, Survives};
@@ -18,8 +18,8 @@ use sqlite::{Alter, Connection, Error};
 use std::alloc::Global;
 use table_reads::{HeldRows, with_reply_bytes};
 
-// Whether the connection is still open: a fault at the end of a read may have shut it. Nothing is
-// changed.
+// Checks that the connection is still open, because a fault at the end of a read may have closed
+// it. Nothing is changed.
 fn stay_open<S: Alter>(conn: &mut Connection<S>) -> Result<(), Error>
     requires { conn.old.in_transaction ≡ false }
     ensures open { HasCleanDisk (state S.Store conn.new)
@@ -36,9 +36,10 @@ fn stay_open<S: Alter>(conn: &mut Connection<S>) -> Result<(), Error>
     Ok(())
 }
 
-// Our own tables are made anew, and the rows put in, with the bytes of their replies. A disk that
-// is not clean may have lost a row since it was read. It reported nothing then, so that the error
-// is not one of the disk.
+// Rebuilds the tables of the current schema, with the same rows. The reply bytes are read again,
+// because the audit skips them. Returns `InvalidQuery` if the rows have changed since the audit.
+// This happens only if the disk returned wrong data without an error, so it isn't reported as a
+// disk error.
 fn rebuild<S: Alter>(
     conn: &mut Connection<S>,
     version: Version,
@@ -62,9 +63,10 @@ fn rebuild<S: Alter>(
     remake(conn, version, &whole)
 }
 
-/// Our own tables that stand as they are made stay, to the last byte of each tree. Others are made
-/// anew, and their rows put in, in one transaction: the replies are read once more, whole. A crash
-/// leaves what it could leave before, or all of it.
+/// Leaves the database unchanged, up to the last byte of each tree, if its tables are exactly as
+/// the store creates them. Otherwise rebuilds the tables with the same rows in one transaction, and
+/// reads the replies again with their bytes. After a crash the database is as it could be before
+/// the call, or completely rebuilt.
 pub(crate) fn settle<S: Alter>(
     alloc: Global,
     conn: &mut Connection<S>,

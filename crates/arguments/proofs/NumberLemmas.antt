@@ -1,4 +1,4 @@
--- What a reader gets of an option that has a number, and of a flag.
+-- The values of options with a number, and of flags.
 use Rattle.std.proofs.Common.{◌≡◌, ◌∙◌, ◌<◌, ◌^◌, ◌↔◌, ℕ, Bool, true, false, codes, Option, None, Some, refl, sym, ap}
 use Rattle.std.specs.Prelude.{Result, Ok, Err}
 use Rattle.std.specs.Str.Parse.{ParsesBool, ParsesUnsigned}
@@ -8,7 +8,8 @@ use Rattle.clap.specs.declared.parser.matches.Found.{Found}
 use Rattle.clap.proofs.WalkLemmas.{one_text-rows}
 use Rattle.arguments.specs.Words.{IsFlag, IsNumber}
 
--- a getter of an unsigned type of k bits reads the number, if the type has it
+-- A getter of an unsigned type of `k` bits returns `n` if and only if the value of the option is
+-- the number `n` and the type contains `n`.
 pub number_read : (E : Type 0) (G : Text → Result ℕ E → Type 0) (k : ℕ) (name : Text) (f : Found) (r : Option ℕ)
     → ((u : Text) (x : Result ℕ E) → G u x → ParsesUnsigned k 10 u x)
     → (one_text f name ≡ None → r ≡ None) → ((t : Text) → one_text f name ≡ Some t → ReadsOne G t r)
@@ -40,7 +41,7 @@ number_read E G k name f r only none some n = at (one_text f name) refl r none s
               absurd (only t (Err failed.0) failed.1 (rw (← same) has.0.2, rw (← same, has.0.3) has.1))),
         )
 
--- the getter of a flag reads whether it is on or off, if its text says either
+-- The getter of a flag returns `on` if and only if `on` is the value of the flag.
 pub flag_read : (E : Type 0) (name : Text) (f : Found) (r : Option Bool) → (one_text f name ≡ None → r ≡ None)
     → ((t : Text) → one_text f name ≡ Some t → ReadsOne (ParsesBool {E = E}) t r)
     → (on : Bool) → (r ≡ Some on) ↔ IsFlag name (rows_of f) on

@@ -1,4 +1,4 @@
--- What a reader gets of an option that has a text, and what an option that has none means.
+-- The values of options with a text, and the meaning of a missing value.
 use Rattle.std.proofs.Common.{◌≡◌, ◌∙◌, ◌≤◌, ℕ, List, Bool, true, false, if◌then◌else◌, refl, codes, inl, inr, Option, None, Some, sym, ap, option_map, string_bytes}
 use Rattle.std.specs.Borrow.{Bor}
 use Rattle.clap.specs.Words.{Row, Text, first_of, first_value, rows_of}
@@ -9,7 +9,7 @@ use Rattle.arguments.specs.declared.words.Unread.{Unread}
 use Rattle.arguments.specs.declared.words.Unread.TheVariants as lacks
 use Rattle.arguments.specs.declared.words.Words.TheVariants.{Serve, Report, Feed}
 
--- a getter of a text reads what the rows have
+-- A getter of a text returns the first value of the option in the rows.
 pub text_read : (f : Found) (name : Text) (o : Option (Bor Text)) → option_map (λ s. s.now) o ≡ first_value f name → (s : Bor Text) → o ≡ Some s
     → first_of name (rows_of f) ≡ Some s.now
 text_read f name o is s some = sym (first_value-rows f name) ∙ sym is ∙ ap (option_map (λ s. s.now)) some
@@ -19,7 +19,7 @@ pub no_text : (f : Found) (name : Text) (o : Option (Bor Text)) → option_map (
 no_text f name o is none t has =
     let bad : None ≡ Some t = ap (option_map (λ s. s.now)) (sym none) ∙ is ∙ first_value-rows f name ∙ has in cc
 
--- a name is read where the text is one
+-- If no name was parsed, the text isn't a name.
 pub no_name : (t : Text) (b : Bool) (o : Option Text) → o ≡ (if b then Some t else None) → o ≡ None → b ≡ false
 no_name t true o is none = let bad : Some t ≡ None = sym is ∙ none in cc
 no_name t false o is none = refl
@@ -32,7 +32,7 @@ pub name_passes : (t : Text) (b : Bool) (o : Option Text) (x : Text) → o ≡ (
 name_passes t true o x is some = refl
 name_passes t false o x is some = let bad : Some x ≡ None = sym some ∙ is in cc
 
--- ---- an option of `serve`, `report` or `feed` that isn't there
+-- ---- a missing option of `serve`, `report` or `feed`
 
 pub serve_no_db : (rows : List Row) → ((t : Text) → first_of (codes "db") rows ≡ Some t → ⊥) → ReadsNone (ReadsServe rows)
 serve_no_db rows none (Serve db port turns) range reads = none (string_bytes db) reads.0
@@ -70,7 +70,7 @@ pub feed_no_batch : (rows : List Row) → ((t : Text) → first_of (codes "batch
 feed_no_batch rows none (Feed port start) range reads = none start.batch reads.3.0
 feed_no_batch rows none _ range reads = reads
 
--- ---- an option that has no name
+-- ---- an option whose value isn't a name
 
 pub reports_not : (rows : List Row) (why : Unread) → NamesNot (codes "batch") rows why → ReportsNot rows why
 reports_not rows lacks.Nothing none = report_no_batch rows none

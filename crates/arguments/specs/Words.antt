@@ -1,4 +1,5 @@
--- What the arguments of the program mean: this project's profile, as a command of `clap`.
+-- The command line of `persod` (this project's profile), as a command of `clap`, and the meaning of
+-- its arguments.
 use Rattle.std.specs.Prelude.{◌≡◌, ◌≢◌, ◌≤◌, ◌⊎◌, ⊤, ℕ, Bool, List, [], ◌∷◌, codes}
 use Rattle.std.specs.Prelude.{Option, Some, pos, true, false, string_bytes}
 use Rattle.std.specs.Str.Parse.{IsNumeral, digits_value, without_leading_plus}
@@ -24,11 +25,11 @@ use Rattle.arguments.specs.declared.words.WordsFault.TheVariants.{NotText, BadNa
 
 -- ---- the command
 
--- the numbers from low to high
+-- the parser of the numbers from `low` to `high`
 abbrev pub numbers : ℕ → ℕ → ValueParser
 numbers low high = Signed (pos low) (pos high)
 
--- `--name N`; where it is not given, the default stands
+-- `--name N`, with a default
 abbrev pub number_option : Text → ValueParser → Text → Rule
 number_option name parser default = record (new_rule name) {
   long = Some name;
@@ -37,7 +38,7 @@ number_option name parser default = record (new_rule name) {
   defaults = default ∷ [];
 }
 
--- `--name`, which is on where it is given
+-- `--name`, a flag that is off by default
 abbrev pub flag : Text → Rule
 flag name = record (new_rule name) { long = Some name; action = Some SetTrue }
 
@@ -53,19 +54,19 @@ plan_command =
 abbrev pub drill_command : App
 drill_command = new_app (codes "drill")
 
--- `--name WORD`, which has to be given
+-- `--name WORD`, required
 abbrev pub text_needed : Text → Rule
 text_needed name = record (new_rule name) { long = Some name; value_names = 1; required = true }
 
--- `--name N`, which has to be given
+-- `--name N`, required
 abbrev pub number_needed : Text → ValueParser → Rule
 number_needed name parser = record (text_needed name) { parser = Some parser }
 
--- `--port N`, a port
+-- `--port N`, required
 abbrev pub port_needed : Rule
 port_needed = number_needed (codes "port") (numbers 1 65535)
 
--- `--boot N`, a machine's boot
+-- `--boot N`, required
 abbrev pub boot_needed : Rule
 boot_needed = number_needed (codes "boot") (Unsigned 1 9999999999)
 
@@ -93,12 +94,12 @@ feed_command =
     boot_needed)
     (text_needed (codes "batch"))
 
--- the command has a version, for which `--version` or `-V` asks, and subcommands, one of which has
--- to be named
+-- command `a` with `--version` and `-V`, and with a required subcommand
 abbrev pub versioned : App → App
 versioned a = record a { top = record a.top { has_version = true; subcommand_required = true } }
 
--- the program's command: its words are refused by `fault_of`, and else have `subcommand_of`
+-- the command of the program: `fault_of` says which arguments `clap` refuses, and `subcommand_of`
+-- which subcommand the other arguments have
 abbrev pub program : App
 program =
     with_subcommand (with_subcommand (with_subcommand
@@ -106,13 +107,13 @@ program =
     plan_command.top) drill_command.top)
     serve_command.top) report_command.top) feed_command.top
 
--- ---- the answers
+-- ---- the arguments that are accepted
 
--- a boot is 1 to 9,999,999,999
+-- `boot` is a boot number, 1 to 9,999,999,999
 abbrev pub IsBoot : ℕ → Type 0
 IsBoot boot = (1 ≤ boot) × (boot ≤ 9999999999)
 
--- each value is in its range
+-- each value of the subcommand is in its range
 abbrev pub InRange : Words → Type 0
 InRange (Plan max low check) = (16 ≤ max) × (max ≤ 255) × (low ≤ 31)
 InRange Drill = ⊤
@@ -120,7 +121,7 @@ InRange (Serve db port turns) = (1 ≤ port) × (port ≤ 65535) × (1 ≤ turns
 InRange (Report db batch) = ⊤
 InRange (Feed port start) = (1 ≤ port) × (port ≤ 65535) × IsBoot start.boot
 
--- it uses the standard streams alone, and no file or socket
+-- the subcommand uses only the standard streams, no file and no socket
 abbrev pub UsesStreams : Words → Type 0
 UsesStreams (Plan max low check) = ⊤
 UsesStreams Drill = ⊤
@@ -128,21 +129,21 @@ UsesStreams (Serve db port turns) = ⊥
 UsesStreams (Report db batch) = ⊥
 UsesStreams (Feed port start) = ⊥
 
--- an option has this number, by the arguments or by default: its text is its decimal digits, before
--- which a plus may stand
+-- the value of option `name`, given or by default, is the decimal number `n`, which may have a plus
+-- sign
 abbrev pub IsNumber : Text → List Row → ℕ → Type 0
 IsNumber name rows n = (t : Text) × (one_of name rows ≡ Some t)
     × IsNumeral 10 (without_leading_plus t) × (digits_value 10 (without_leading_plus t) ≡ n)
 
--- the flag is on or off, by the arguments or by default
+-- the value of flag `name`, given or by default, is `on`
 abbrev pub IsFlag : Text → List Row → Bool → Type 0
 IsFlag name rows on = one_of name rows ≡ Some (bool_text on)
 
--- an option has this text, and it is a name
+-- the value of `option` is `name`, and that is a name
 abbrev pub HasName : Text → List Row → Text → Type 0
 HasName option rows name = (first_of option rows ≡ Some name) × (is_name name ≡ true)
 
--- an option has a text that isn't one
+-- the value of `option` isn't a name
 abbrev pub HasBadName : Text → List Row → Type 0
 HasBadName option rows = (name : Text) × (first_of option rows ≡ Some name)
     × (is_name name ≡ false)
@@ -151,36 +152,36 @@ HasBadName option rows = (name : Text) × (first_of option rows ≡ Some name)
 abbrev pub IsDrill : Option (Text × List Row) → Type 0
 IsDrill sub = (rows : List Row) × (sub ≡ Some (codes "drill", rows))
 
--- the options of `plan` are read as this answer
+-- the options `rows` of `plan` have the values of the subcommand
 abbrev pub ReadsPlan : List Row → Words → Type 0
 ReadsPlan rows (Plan max low check) = IsNumber (codes "max") rows max
     × IsNumber (codes "low") rows low × IsFlag (codes "check") rows check
 ReadsPlan rows _ = ⊥
 
--- those of `serve`
+-- the options `rows` of `serve` have the values of the subcommand
 abbrev pub ReadsServe : List Row → Words → Type 0
 ReadsServe rows (Serve db port turns) = (first_of (codes "db") rows ≡ Some (string_bytes db))
     × IsNumber (codes "port") rows port × IsNumber (codes "turns") rows turns
 ReadsServe rows _ = ⊥
 
--- those of `report`
+-- the options `rows` of `report` have the values of the subcommand
 abbrev pub ReadsReport : List Row → Words → Type 0
 ReadsReport rows (Report db batch) = (first_of (codes "db") rows ≡ Some (string_bytes db))
     × HasName (codes "batch") rows batch
 ReadsReport rows _ = ⊥
 
--- those of `feed`
+-- the options `rows` of `feed` have the values of the subcommand
 abbrev pub ReadsFeed : List Row → Words → Type 0
 ReadsFeed rows (Feed port start) = IsNumber (codes "port") rows port
     × HasName (codes "machine") rows start.machine × IsNumber (codes "boot") rows start.boot
     × HasName (codes "batch") rows start.batch
 ReadsFeed rows _ = ⊥
 
--- the subcommand of this name is read as its options are
+-- `sub` is the subcommand `name`, and `how` relates its options to `w`
 abbrev pub Reads : Text → (List Row → Words → Type 0) → Option (Text × List Row) → Words → Type 0
 Reads name how sub w = (rows : List Row) × (sub ≡ Some (name, rows)) × how rows w
 
--- a subcommand with its options is read as this answer
+-- `clap`'s subcommand `sub`, with its options, reads as the given subcommand
 abbrev pub ReadsAs : Option (Text × List Row) → Words → Type 0
 ReadsAs sub (Plan max low check) = Reads (codes "plan") ReadsPlan sub (Plan max low check)
 ReadsAs sub Drill = IsDrill sub
@@ -188,60 +189,57 @@ ReadsAs sub (Serve db port turns) = Reads (codes "serve") ReadsServe sub (Serve 
 ReadsAs sub (Report db batch) = Reads (codes "report") ReadsReport sub (Report db batch)
 ReadsAs sub (Feed port start) = Reads (codes "feed") ReadsFeed sub (Feed port start)
 
--- the arguments ask for this: it is how clap's subcommand of the arguments reads
+-- the arguments `words` ask for the given subcommand: the subcommand that `clap` finds in them
+-- reads as it
 abbrev pub Means : List Text → Words → Type 0
 Means words = ReadsAs (subcommand_of program words)
 
--- some arguments ask for this, in range
-abbrev pub IsAsked : Words → Type 0
-IsAsked w = InRange w × (words : List Text) × Means words w
-
--- the arguments ask for nothing in range
+-- the arguments `words` ask for no subcommand with its values in their ranges
 abbrev pub MeanNothing : List Text → Type 0
 MeanNothing words = (w : Words) → InRange w → ¬ Means words w
 
--- nothing in range is read
+-- no subcommand with its values in their ranges satisfies `how`
 abbrev pub ReadsNone : (Words → Type 0) → Type 0
 ReadsNone how = (w : Words) → InRange w → ¬ how w
 
--- an option has no name
+-- `option` has no value, or its value isn't a name
 abbrev pub NamesNot : Text → List Row → Unread → Type 0
 NamesNot option rows lacks.Nothing = (t : Text) → ¬ (first_of option rows ≡ Some t)
 NamesNot option rows lacks.BadName = HasBadName option rows
 NamesNot option rows lacks.Memory = ⊥
 
--- the options of `serve` aren't read
+-- the reason why the options `rows` of `serve` aren't read
 abbrev pub ServesNot : List Row → Unread → Type 0
 ServesNot rows lacks.Nothing = ReadsNone (ReadsServe rows)
 ServesNot rows lacks.BadName = ⊥
 ServesNot rows lacks.Memory = ⊤
 
--- those of `report` aren't
+-- the reason why the options `rows` of `report` aren't read
 abbrev pub ReportsNot : List Row → Unread → Type 0
 ReportsNot rows lacks.Nothing = ReadsNone (ReadsReport rows)
 ReportsNot rows lacks.BadName = HasBadName (codes "batch") rows
 ReportsNot rows lacks.Memory = ⊤
 
--- those of `feed` aren't
+-- the reason why the options `rows` of `feed` aren't read
 abbrev pub FeedsNot : List Row → Unread → Type 0
 FeedsNot rows lacks.Nothing = ReadsNone (ReadsFeed rows)
 FeedsNot rows lacks.BadName = HasBadName (codes "machine") rows ⊎ HasBadName (codes "batch") rows
 FeedsNot rows lacks.Memory = ⊥
 
--- a subcommand has a bad name
+-- `sub` is `report` or `feed`, and the value for its batch or machine isn't a name
 abbrev pub HasBadNameIn : Option (Text × List Row) → Type 0
 HasBadNameIn sub =
     ((rows : List Row) × (sub ≡ Some (codes "report", rows)) × ReportsNot rows lacks.BadName)
     ⊎ ((rows : List Row) × (sub ≡ Some (codes "feed", rows)) × FeedsNot rows lacks.BadName)
 
--- a subcommand with its options isn't: it asks for nothing in range, or has a bad name
+-- the reason why `clap`'s subcommand `sub` isn't read
 abbrev pub ReadsNot : Option (Text × List Row) → Unread → Type 0
 ReadsNot sub lacks.Nothing = ReadsNone (ReadsAs sub)
 ReadsNot sub lacks.BadName = HasBadNameIn sub
 ReadsNot sub lacks.Memory = ⊤
 
--- help and the version where they are among clap's kinds, a usage fault where another is; memory
--- needs no cause
+-- `kinds` are the kinds of error that `clap` may report: help and the version are reported if they
+-- are among them, and a usage error if another kind is; running out of memory needs no cause
 abbrev pub IsRefusedBy : Kinds → WordsFault → Type 0
 IsRefusedBy kinds (Help text) = IsAmong DisplayHelp kinds
 IsRefusedBy kinds (Version text) = IsAmong DisplayVersion kinds
@@ -251,8 +249,8 @@ IsRefusedBy kinds NotText = ⊥
 IsRefusedBy kinds BadName = ⊥
 IsRefusedBy kinds Memory = ⊤
 
--- clap refuses the arguments so, or it takes them and they are a usage fault, since they ask for
--- nothing or name a batch or a machine by what isn't a name
+-- the fault is `clap`'s refusal of the arguments `words`; or `clap` accepts them, and they ask for
+-- no subcommand in range, or the value for a batch or a machine isn't a name
 abbrev pub IsRefusal : List Text → WordsFault → Type 0
 IsRefusal words (Help text) = IsRefusedBy (fault_of program words) (Help text)
 IsRefusal words (Version text) = IsRefusedBy (fault_of program words) (Version text)
@@ -263,7 +261,7 @@ IsRefusal words BadName =
     (fault_of program words ≡ []) × HasBadNameIn (subcommand_of program words)
 IsRefusal words Memory = ⊤
 
--- why the process gives no words, by the kind of the error
+-- the fault if the arguments of the process can't be read, by the kind of the error
 abbrev pub unread : IoKind → WordsFault
 unread io.OutOfMemory = Memory
 unread _ = NotText

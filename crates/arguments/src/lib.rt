@@ -1,4 +1,4 @@
-//! The program's arguments, and what they ask for.
+//! Reads the arguments of `persod`.
 #![tactic(auto)]
 
 mod words;

@@ -1,4 +1,4 @@
-//! The program's arguments: the subcommand that they ask for, each of its values in its range.
+//! Reads the subcommand and its options from the arguments of `persod`.
 ghost use Rattle.std.specs.Prelude.{◌≡◌, ◌≤◌, ◌<◌, ◌^◌, ℕ, [], IfOk, IfErr, IfSome, IsTrue, ◌↔◌};
 ghost use Rattle.std.specs.Prelude.{None, Some, false, map};
 ghost use Rattle.clap.specs.Words.{HasKind, Kinds, app_of, fault_of, rule_of};
@@ -22,40 +22,48 @@ use std::convert::AsStr;
 use std::{fmt, io};
 use store_data::Name;
 
-/// What is printed for words that clap takes and that ask for nothing: none do.
-const OUT_OF_RANGE: &str = "error: a value is out of its range\n";
+/// The usage error for arguments that `clap` accepts but whose values are missing or out of range.
+/// `clap` checks every range itself, so no arguments are known that lead to it.
+const OUT_OF_RANGE: &str = "error: a value is missing or out of range\n";
 
-/// The program's version, which `--version` prints behind its name.
+/// The program's version, as `--version` prints it.
 const VERSION: &str = "1.0.0";
 
-/// The last lines of each help.
-const STATUSES: &str =
-    "Exit statuses: 0 done; 1 refused; 2 wrong arguments; 3 storage, device or memory";
+/// The end of the help of `drill`.
+const STATUSES: &str = "Exit statuses: 0 done; 1 refused; 2 wrong arguments; 3 storage, device or \
+    memory";
 
-/// The same of `plan`.
-const STATUSES_OF_PLAN: &str =
-    "Exit statuses: 0 done; 1 refused; 2 wrong arguments; 3 storage, device or memory\n\n\
-    A refused batch prints `refused N row R`: docs/PROFILE.md lists each fault by its number N";
+/// The end of the help of `plan`.
+const STATUSES_OF_PLAN: &str = "Exit statuses: 0 done; 1 refused; 2 wrong arguments; 3 storage, \
+    device or memory\n\n\
+    A refused batch prints `refused N row R`. docs/PROFILE.md lists the faults by their number N.";
 
-/// A subcommand of the program, each value in its range.
+/// The end of the help of the program, and of the subcommands that write event lines.
+const STATUSES_AND_EVENTS: &str = "Exit statuses: 0 done; 1 refused; 2 wrong arguments; 3 storage, \
+    device or memory\n\n\
+    Environment: PERSOD_LOG=1 writes event lines to standard error, and PERSOD_LOG=all also a line \
+    for each accepted request (docs/EVENTS.md). Unset, empty, 0 and off write none.";
+
+/// A subcommand with its options. Each value is in its range.
 #[derive(PartialEq, Eq, Drop)]
 pub enum Words {
-    /// Prints the commands of a batch, with at most `max` bytes of data in each STORE DATA, 16 to
-    /// 255, the product's number `low` in its P1, 0 to 31, and whether plain records are checked.
+    /// Prints the commands of a batch. A STORE DATA command has at most `max` bytes of data, 16 to
+    /// 255, and `low`, 0 to 31, in the low five bits of P1. If `check` is `true`, unencrypted EMV
+    /// records are checked.
     Plan { max: u8, low: u8, check: bool },
-    /// Serves a script of requests in memory. It has no options.
+    /// Serves a script of requests with a store in memory.
     Drill,
-    /// Serves `turns` connections to `port` of 127.0.0.1, one after the other, over the file at the
-    /// path `db`. A port is 1 to 65,535, and there are 1 to 1,000,000 turns.
+    /// Serves `turns` connections, 1 to 1,000,000, on `port` of 127.0.0.1, 1 to 65,535, one after
+    /// another. `db` is the path of the database file.
     Serve { db: String, port: u16, turns: u32 },
-    /// Prints the report of a batch in the file at the path `db`.
+    /// Prints the report of `batch`. `db` is the path of the database file.
     Report { db: String, batch: Name },
-    /// Feeds a machine with cards, by a server at `port` of 127.0.0.1, 1 to 65,535.
+    /// Personalises cards as a machine. The server listens on `port` of 127.0.0.1, 1 to 65,535.
     Feed { port: u16, start: FeedStart },
 }
 
-/// What a feed starts with: its machine, the boot of that machine, 1 to 9,999,999,999, and the
-/// batch that its cards are for.
+/// The options of `feed`: the machine, its boot number, 1 to 9,999,999,999, and the batch that its
+/// cards are for.
 #[derive(Clone, Copy, PartialEq, Eq)]
 pub struct FeedStart {
     pub machine: Name,
@@ -76,7 +84,7 @@ impl fmt::Debug for Words {
 }
 
 impl Words {
-    /// Whether the subcommand uses the standard streams alone, and no file or socket.
+    /// Returns `true` if the subcommand uses only the standard streams, no file and no socket.
     pub fn uses_streams(&self) -> bool
         ensures { IsTrue result ↔ UsesStreams self.now }
     {
@@ -84,20 +92,20 @@ impl Words {
     }
 }
 
-/// Why the arguments give no subcommand.
+/// A reason why the arguments contain no subcommand to run.
 #[derive(Debug, Drop)]
 pub enum WordsFault {
-    /// They ask for help: its text is for standard output, and the exit status is 0.
+    /// The arguments ask for help: the text is for standard output, the exit status is 0.
     Help(String),
-    /// They ask for the version: its text is for standard output, and the exit status is 0.
+    /// The arguments ask for the version: the text is for standard output, the exit status is 0.
     Version(String),
-    /// They are wrong: the text is for standard error, and the exit status is 2.
+    /// The arguments are wrong: the text is for standard error, the exit status is 2.
     Usage(String),
-    /// One of them isn't UTF-8.
+    /// An argument isn't UTF-8.
     NotText,
-    /// What should be a batch's or a machine's name isn't a name.
+    /// The value for a batch or a machine isn't a name.
     BadName,
-    /// Memory ran out.
+    /// An allocation failed.
     Memory,
 }
 
@@ -124,11 +132,16 @@ impl From<AllocError> for WordsFault {
     }
 }
 
-/// What the arguments ask for. The first is the program's own name, as `env::args` gives them.
+/// Returns the subcommand that `words` ask for. The first of them is the name of the program, as
+/// `env::args` returns it.
 ///
-/// `Help` and `Version` come only where `clap` answers the arguments so, with `clap`'s text.
-/// `Usage` comes where `clap` refuses them, with `clap`'s text too, or where they ask for nothing
-/// in range.
+/// # Errors
+///
+/// - `Help`, `Version`: the arguments ask for help or for the version. The text is `clap`'s.
+/// - `Usage`: `clap` refuses the arguments, and the text is `clap`'s, or a value is missing or out
+///   of range.
+/// - `BadName`: the value of `--batch` or `--machine` isn't a name.
+/// - `Memory`: an allocation fails.
 pub fn read_words<S: AsStr>(alloc: Global, words: &[S]) -> Result<Words, WordsFault>
     ensures ranges { IfOk result InRange }
     ensures meaning { IfOk result (Means (map S.text words.now)) }
@@ -154,7 +167,7 @@ fn program<'a>(alloc: Global) -> Result<Command<'a>, AllocError>
     Command::new(alloc, "persod")
         .version(VERSION)
         .about("A job server for card personalisation")
-        .after_help(STATUSES)
+        .after_help(STATUSES_AND_EVENTS)
         .subcommand_required(true)
         .subcommand(plan_command(alloc)?)?
         .subcommand(drill_command(alloc))?
@@ -167,16 +180,16 @@ fn plan_command<'a>(alloc: Global) -> Result<Command<'a>, AllocError>
     ensures { IfOk result (λ c. (app_of c ≡ plan_command) × ((fields_of c).has_globals ≡ false)) }
 {
     let max = number_option(alloc, "max", value_parser!(u8).range(16..=255), "255").help(
-        "The most bytes of data in one STORE DATA, 16 to 255",
+        "Maximum number of data bytes in a STORE DATA command, 16 to 255",
     );
     let low = number_option(alloc, "low", value_parser!(u8).range(0..=31), "0").help(
-        "Bits 5 to 1 of P1 in each STORE DATA, 0 to 31",
+        "Bits 5 to 1 of P1 in every STORE DATA command, 0 to 31",
     );
     let check = flag(alloc, "check").help(
-        "Checks each plain record of a card's files (EMV Book 3)",
+        "Check that each unencrypted EMV record has the form of EMV Book 3",
     );
     Command::new(alloc, "plan")
-        .about("Prints the commands for each record of a batch, read from standard input")
+        .about("Print the commands for each record of a batch file, read from standard input")
         .after_help(STATUSES_OF_PLAN)
         .arg(max)?
         .arg(low)?
@@ -187,7 +200,7 @@ fn drill_command<'a>(alloc: Global) -> Command<'a>
     ensures { (app_of result ≡ drill_command) × ((fields_of result).has_globals ≡ false) }
 {
     Command::new(alloc, "drill")
-        .about("Serves a script of requests, read from standard input, in memory")
+        .about("Serve a script of requests, read from standard input, with a store in memory")
         .after_help(STATUSES)
 }
 
@@ -195,15 +208,15 @@ fn serve_command<'a>(alloc: Global) -> Result<Command<'a>, AllocError>
     ensures { IfOk result (λ c. (app_of c ≡ serve_command) × ((fields_of c).has_globals ≡ false)) }
 {
     let db = text_needed(alloc, "db", "PATH").help(
-        "The file that holds everything; a new one is made where there is none",
+        "Path of the database file; created if it does not exist",
     );
-    let port = port_needed(alloc).help("The port of 127.0.0.1, 1 to 65535");
+    let port = port_needed(alloc).help("Port on 127.0.0.1, 1 to 65535");
     let turns = number_needed(alloc, "turns", value_parser!(u32).range(1..=1_000_000)).help(
-        "How many connections are served before it ends, 1 to 1000000",
+        "Number of connections to serve before exiting, 1 to 1000000",
     );
     Command::new(alloc, "serve")
-        .about("Serves requests on 127.0.0.1 over a file, one connection after the other")
-        .after_help(STATUSES)
+        .about("Serve requests on 127.0.0.1 with a database file, one connection after another")
+        .after_help(STATUSES_AND_EVENTS)
         .arg(db)?
         .arg(port)?
         .arg(turns)
@@ -212,11 +225,11 @@ fn serve_command<'a>(alloc: Global) -> Result<Command<'a>, AllocError>
 fn report_command<'a>(alloc: Global) -> Result<Command<'a>, AllocError>
     ensures { IfOk result (λ c. (app_of c ≡ report_command) × ((fields_of c).has_globals ≡ false)) }
 {
-    let db = text_needed(alloc, "db", "PATH").help("The file that holds everything");
-    let batch = text_needed(alloc, "batch", "NAME").help("The batch");
+    let db = text_needed(alloc, "db", "PATH").help("Path of the database file; it must exist");
+    let batch = text_needed(alloc, "batch", "NAME").help("Name of the batch");
     Command::new(alloc, "report")
-        .about("Prints the report of a batch")
-        .after_help(STATUSES)
+        .about("Print the report of a batch")
+        .after_help(STATUSES_AND_EVENTS)
         .arg(db)?
         .arg(batch)
 }
@@ -224,22 +237,22 @@ fn report_command<'a>(alloc: Global) -> Result<Command<'a>, AllocError>
 fn feed_command<'a>(alloc: Global) -> Result<Command<'a>, AllocError>
     ensures { IfOk result (λ c. (app_of c ≡ feed_command) × ((fields_of c).has_globals ≡ false)) }
 {
-    let port = port_needed(alloc).help("The server's port of 127.0.0.1, 1 to 65535");
-    let machine = text_needed(alloc, "machine", "NAME").help("The machine");
+    let port = port_needed(alloc).help("Port of the server on 127.0.0.1, 1 to 65535");
+    let machine = text_needed(alloc, "machine", "NAME").help("Name of the machine");
     let boot = boot_needed(alloc).help(
-        "A number that is greater at each start of the machine, 1 to 9999999999",
+        "Boot number, 1 to 9999999999; must increase at every start of the machine",
     );
-    let batch = text_needed(alloc, "batch", "NAME").help("The batch");
+    let batch = text_needed(alloc, "batch", "NAME").help("Name of the batch");
     Command::new(alloc, "feed")
-        .about("Makes cards, read from standard input, as a machine of a server")
-        .after_help(STATUSES)
+        .about("Personalise cards as a machine: one card a line of standard input")
+        .after_help(STATUSES_AND_EVENTS)
         .arg(port)?
         .arg(machine)?
         .arg(boot)?
         .arg(batch)
 }
 
-// `--port N`, a port.
+// `--port N`, required
 fn port_needed<'a>(alloc: Global) -> Arg<'a>
     ensures rule { rule_of result ≡ port_needed }
     ensures own { result.global ≡ false }
@@ -247,7 +260,7 @@ fn port_needed<'a>(alloc: Global) -> Arg<'a>
     number_needed(alloc, "port", value_parser!(u16).range(1..=65_535))
 }
 
-// `--boot N`, a machine's boot.
+// `--boot N`, required
 fn boot_needed<'a>(alloc: Global) -> Arg<'a>
     ensures rule { rule_of result ≡ boot_needed }
     ensures own { result.global ≡ false }
@@ -255,7 +268,7 @@ fn boot_needed<'a>(alloc: Global) -> Arg<'a>
     number_needed(alloc, "boot", ValueParser::unsigned(1, 9_999_999_999))
 }
 
-// `--name WORD`, which has to be given.
+// `--name WORD`, required
 fn text_needed<'a>(alloc: Global, name: &'a str, word: &'a str) -> Arg<'a>
     ensures rule { rule_of result ≡ text_needed name.entry.now }
     ensures own { result.global ≡ false }
@@ -266,7 +279,7 @@ fn text_needed<'a>(alloc: Global, name: &'a str, word: &'a str) -> Arg<'a>
         .required(true)
 }
 
-// `--name N`, which has to be given.
+// `--name N`, required
 fn number_needed<'a>(alloc: Global, name: &'a str, parser: ValueParser<'a>) -> Arg<'a>
     ensures rule { rule_of result ≡ number_needed name.entry.now parser.entry }
     ensures own { result.global ≡ false }
@@ -278,7 +291,7 @@ fn number_needed<'a>(alloc: Global, name: &'a str, parser: ValueParser<'a>) -> A
         .required(true)
 }
 
-// `--name N`, and the default where it is not given.
+// `--name N`, with a default
 fn number_option<'a>(
     alloc: Global,
     name: &'a str,
@@ -295,7 +308,7 @@ fn number_option<'a>(
         .default_value(default)
 }
 
-// `--name`, which is on where it is given.
+// `--name`, a flag that is off by default
 fn flag<'a>(alloc: Global, name: &'a str) -> Arg<'a>
     ensures rule { rule_of result ≡ flag name.entry.now }
     ensures own { result.global ≡ false }
@@ -303,14 +316,14 @@ fn flag<'a>(alloc: Global, name: &'a str) -> Arg<'a>
     Arg::new(alloc, name).long(name).action(ArgAction::SetTrue)
 }
 
-/// Why words that `clap` takes are not read.
+/// A reason why arguments that `clap` accepts can't be read.
 #[derive(Clone, Copy, Debug, PartialEq, Eq)]
 enum Unread {
-    /// They ask for nothing in range.
+    /// A value is missing or out of range.
     Nothing,
-    /// What should be a name isn't a name.
+    /// The value of `--batch` or `--machine` isn't a name.
     BadName,
-    /// Memory was refused.
+    /// An allocation failed.
     Memory,
 }
 
@@ -322,7 +335,7 @@ impl From<AllocError> for Unread {
     }
 }
 
-// The subcommand, if it is one of the program's and each of its values is there, in its range.
+// Reads the subcommand that `clap` found.
 fn words_of(alloc: Global, matches: &ArgMatches<'_>) -> Result<Words, Unread>
     ensures ranges { IfOk result InRange }
     ensures meaning { IfOk result (ReadsAs (subcommand_rows_of matches.now)) }
@@ -341,7 +354,7 @@ fn words_of(alloc: Global, matches: &ArgMatches<'_>) -> Result<Words, Unread>
     }
 }
 
-// The values of `plan`, if each is there, in its range.
+// Reads the options of `plan`.
 fn plan_of(values: &ArgMatches<'_>) -> Option<Words>
     ensures ranges { IfSome result InRange }
     ensures values { IfSome result (ReadsPlan (rows_of (found_of values.now))) }
@@ -355,7 +368,7 @@ fn plan_of(values: &ArgMatches<'_>) -> Option<Words>
     })
 }
 
-// The values of `serve`, if each is there, in its range.
+// Reads the options of `serve`.
 fn serve_of(alloc: Global, values: &ArgMatches<'_>) -> Result<Words, Unread>
     ensures ranges { IfOk result InRange }
     ensures values { IfOk result (ReadsServe (rows_of (found_of values.now))) }
@@ -377,7 +390,7 @@ fn serve_of(alloc: Global, values: &ArgMatches<'_>) -> Result<Words, Unread>
     })
 }
 
-// The values of `report`, if each is there, and the batch's is a name.
+// Reads the options of `report`.
 fn report_of(alloc: Global, values: &ArgMatches<'_>) -> Result<Words, Unread>
     ensures ranges { IfOk result InRange }
     ensures values { IfOk result (ReadsReport (rows_of (found_of values.now))) }
@@ -393,7 +406,7 @@ fn report_of(alloc: Global, values: &ArgMatches<'_>) -> Result<Words, Unread>
     })
 }
 
-// The values of `feed`, if each is there, the numbers in their ranges, and the names names.
+// Reads the options of `feed`.
 fn feed_of(values: &ArgMatches<'_>) -> Result<Words, Unread>
     ensures ranges { IfOk result InRange }
     ensures values { IfOk result (ReadsFeed (rows_of (found_of values.now))) }
@@ -416,7 +429,7 @@ fn feed_of(values: &ArgMatches<'_>) -> Result<Words, Unread>
     Ok(Words::Feed { port, start })
 }
 
-// The name that an option has.
+// Reads the value of `option` as a name.
 fn name_of(values: &ArgMatches<'_>, option: &str) -> Result<Name, Unread>
     ensures name { IfOk result (HasName option.now (rows_of (found_of values.now))) }
     ensures unread { IfErr result (NamesNot option.now (rows_of (found_of values.now))) }
@@ -430,7 +443,7 @@ fn name_of(values: &ArgMatches<'_>, option: &str) -> Result<Name, Unread>
     Ok(name)
 }
 
-// The number of an option, if it has one from `low` to `high`.
+// Reads the value of the option `name` as a number from `low` to `high`.
 fn number(values: &ArgMatches<'_>, name: &str, low: u64, high: u64) -> Option<u64>
     ensures some { IfSome result (λ n.
         IsNumber name.now (rows_of (found_of values.now)) n × (low ≤ n) × (n ≤ high)) }

@@ -1,4 +1,5 @@
--- The same contents in another order: each arrival gets the same reply, and leaves the same again.
+-- Proves that contents in a different order give each arrival the same reply, and that the contents
+-- after it again differ only in order.
 use Rattle.std.proofs.Common.{◌≡◌, ◌==◌, ◌&&◌, ◌||◌, ℕ, Bool, true, false, List, [], ◌∷◌, ◌++◌, get_or, map, sym, ap, ◌∙◌, subst, inl, inr, IsPermutation, eq-eqb, not}
 use Rattle.std.specs.Prelude.{bytes_eq, filter, max, nat_le, nat_lt, if◌then◌else◌}
 use Rattle.std.proofs.lemmas.Bool.{and_from, and_parts, both_ways, cases_Bool, eqb-true, false_from_ne_true}
@@ -23,7 +24,7 @@ use Rattle.arrivals.proofs.MeaningLemmas.{mark_other, mark_set, upto_of}
 same_bytes : (m n : List ℕ) → bytes_eq m n ≡ true → m ≡ n
 same_bytes m n hit = (bytes_eq-Decides m n).0 hit
 
--- two of one name are one, where no two have one
+-- two marks of different clients don't both have the name `n`
 marked_alone : (n : List ℕ) (m k : Mark) → bytes_eq m.client k.client ≡ false → has_mark n m ≡ true → has_mark n k ≡ false
 marked_alone n m k apart hit = false_from_ne_true (has_mark n k) (λ also.
     both_ways (bytes_eq m.client k.client) apart ((bytes_eq-Decides m.client k.client).1 (same_bytes m.client n hit ∙ sym (same_bytes k.client n also))))
@@ -39,20 +40,20 @@ kept_alone client number d e apart hit = false_from_ne_true (is_at client number
     let numbers : (d.number == e.number) ≡ true = eq-eqb d.number e.number (eqb-true d.number number one.1 ∙ sym (eqb-true e.number number two.1)) in
     both_ways (is_of_number d e) apart (and_from (bytes_eq d.client e.client) (d.number == e.number) clients numbers))
 
--- what is above marks is above others that read alike
+-- the kept replies above two lists of release marks are the same if the marks of all clients are
 above_alike : (ms ns : List Mark) (ds es : List Entry) → ((n : List ℕ) → mark_of ms n ≡ mark_of ns n) → IsPermutation ds es → IsPermutation (above ms ds) (above ns es)
 above_alike ms ns ds es alike moved =
     let tests : is_above ms ≡ is_above ns = λ i e. nat_lt (alike e.client i) e.number in
     subst (λ p. IsPermutation (above ms ds) (filter p es)) tests (IsPermutation-filter (is_above ms) ds es moved)
 
--- the contents after an arrival that gets its reply again, or after a first
+-- the contents after an arrival that gets its reply again, or after one with a new number
 abbrev after_by : Contents → Arrived → Bool → Contents
 after_by c a again =
     let new : List Arrived = if again then [] else a ∷ [] in
     let marks = marks_after c.marks new in
     record { facts = facts_after c.facts new; kept = above marks (c.kept ++ entries_of c.facts c.marks new); marks = marks }
 
--- the same facts answer alike
+-- facts that differ only in order give the same replies
 abbrev pub FactsAlike : Type 0
 FactsAlike = (f g : Facts) (client : List ℕ) (r : Request) → IsSound f → AreSameFacts f g → AreAlike (step f client r) (step g client r)
 
@@ -125,7 +126,7 @@ module _ (facts : FactsAlike) (c d : Contents) (sound : AreSound c) (same : AreS
         marks = marks.0;
       }
 
-  -- whether it gets its reply again
+  -- an arrival gets its reply again for both contents or for neither
   again_alike : (a : Arrived) → (is_released c.marks a || is_among (map number_of c.kept) a) ≡ (is_released d.marks a || is_among (map number_of d.kept) a)
   again_alike a =
       let among : is_among (map number_of c.kept) a ≡ is_among (map number_of d.kept) a =

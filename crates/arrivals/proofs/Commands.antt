@@ -1,4 +1,4 @@
--- The plain machine hands out commands in the order of their sequence.
+-- Proves that the reference model returns commands in the order of their sequence.
 use Rattle.std.proofs.Common.{◌≡◌, ◌∙◌, ◌+◌, ◌==◌, ℕ, true, List, length, Option, Some, None, Result, Ok, Err, refl, sym, ap}
 use Rattle.std.specs.Prelude.{bytes_eq, not, nat_le, slice_get}
 use Rattle.std.proofs.lemmas.Bool.{cond_both, not-false}
@@ -56,7 +56,7 @@ import_fits f b p raw =
     cond_both {A = Outcome} (nat_le 4096 (length f.batches)) _ _ (Fits f) (λ yes. tt) (λ no. taken_fits f b p raw (batch_of kept raw))))
     (λ kept is. cond_both {A = Outcome} (same_batch kept p raw) _ _ (Fits f) (λ yes. tt) (λ no. tt))
 
--- a batch that is not closed
+-- a batch that isn't closed
 batch_fits : (f : Facts) (b : List ℕ) (act : Batch → Outcome) → ((kept : Batch) → Fits f (act kept)) → Fits f (in_batch f b act)
 batch_fits f b act fits = option_both (batch_named f.batches b) _ _ (Fits f) tt (λ kept is. cond_both {A = Outcome} (is_closed f b) _ _ (Fits f) (λ yes. tt) (λ no. fits kept))
 
@@ -69,7 +69,7 @@ open_fits f machine b blank = batch_fits f b _ (λ kept.
     option_both (first_waiting f b) _ _ (Fits f) tt (λ r first. let c = first_command f b r first in (c.0, c.1, ap command_bytes c.1))))))
     (λ s runs. tt))
 
--- a session that is the client's and runs
+-- a running session of the client
 session_fits : (f : Facts) (client : List ℕ) (s : ℕ) (act : Session → Outcome)
     → ((x : Session) → session_numbered f.sessions s ≡ Some x → is_running (session_state f x) ≡ true → Fits f (act x))
     → Fits f (in_session f client s act)
@@ -120,7 +120,8 @@ hands_out_next f sound client (request.Remake b r) = record_fits f b r (remade f
 hands_out_next f sound client (request.Withdraw b r) = record_fits f b r (withdrawn f b r) (withdrawn_fits f b r)
 hands_out_next f sound client (request.Close b) = batch_fits f b _ (λ kept. cond_both {A = Outcome} (is_batch_finished f b) _ _ (Fits f) (λ yes. tt) (λ no. tt))
 
--- a release hands out none
+-- a command in the reply to a call is the next one of its sequence; the reply to a release has no
+-- command
 pub call_hands_out_next : (f : Facts) → IsSound f → (marks : List Mark) (client : List ℕ) (number : ℕ) (call : Call) → HandsOutNext f (reply_by f marks client number call)
 call_hands_out_next f sound marks client number (Job r) = hands_out_next f sound client r
 call_hands_out_next f sound marks client number (Release upto) = cond_both {A = Reply} (nat_le number upto) _ _ (HandsOutNext f) (λ far. tt) (λ near. tt)

@@ -1,4 +1,4 @@
--- Texts that need no escape in JSON.
+-- Lemmas about texts that JSON doesn't escape.
 use Rattle.std.proofs.Common.{◌≡◌, ◌<◌, ◌/◌, ◌%◌, ℕ, zero, suc, Bool, true, List, [], ◌∷◌, ◌++◌, refl, ap, ◌∙◌, inl, inr, arith}
 use Rattle.std.specs.Prelude.{IsTrue, ◌&&◌, slice_index}
 use Rattle.std.specs.Prelude.{Result, Ok, Err, IsOk, MatchResult}
@@ -33,7 +33,7 @@ pub plain_ascii : (xs : List ℕ) → IsPlain xs → IsAscii xs
 plain_ascii [] h = IsAscii-nil
 plain_ascii (x ∷ xs) h = let parts = plain_parts x xs h in IsAscii-cons x xs (name_char_ascii x parts.0) (plain_ascii xs parts.1)
 
--- the first n digits pass the test
+-- the first `n` digits pass the test
 are_plain_digits : ℕ → Bool
 are_plain_digits zero = true
 are_plain_digits (suc n) = is_name_char (slice_index upper_digits n) && are_plain_digits n
@@ -63,7 +63,7 @@ hex_plain (x ∷ xs) fits =
 pub name_plain : (n : List ℕ) → IsTrue (is_name n) → IsPlain n
 name_plain n h = grind (arith, nat_tests)
 
--- no error where each is ruled out
+-- a result is `Ok` if no error is possible
 pub IsOk-from_match : {T E : Type 0} (r : Result T E) (P : T → Type 0) (Q : E → Type 0) → ((e : E) → Q e → ⊥) → MatchResult r P Q → IsOk r
 IsOk-from_match (Ok x) P Q none is = refl
 IsOk-from_match (Err e) P Q none is = absurd (none e is)

@@ -1,4 +1,4 @@
--- One arrival: its number is released, or kept, or new.
+-- Lemmas about one arrival, whose number is released, used or new.
 use Rattle.std.proofs.Common.{◌≡◌, ◌≤◌, ◌<◌, ◌==◌, ◌&&◌, ◌||◌, ℕ, Bool, true, false, not, cond, List, [], ◌∷◌, ◌++◌, map, All, Option, Some, None, refl, sym, ap, ◌∙◌, subst, inl, inr, append-nil, arith}
 use Rattle.std.specs.Prelude.{bytes_eq, find, filter, is_some, nat_le, option_map, unwrap_or}
 use Rattle.std.specs.Option.{option_or}
@@ -21,7 +21,7 @@ filter_all p [] all = refl
 filter_all p (x ∷ xs) all =
     ap (λ b. cond b (x ∷ filter p xs) (filter p xs)) (All-head (λ x. p x ≡ true) x xs all) ∙ ap (λ ys. x ∷ ys) (filter_all p xs (All-tail (λ x. p x ≡ true) x xs all))
 
--- a number is among those that are kept where it has an entry
+-- a number is used if and only if it has an entry
 pub among_kept : (kept : List Entry) (a : Arrived) → is_among (map number_of kept) a ≡ is_some (entry_of kept a.client a.number)
 among_kept [] a = refl
 among_kept (e ∷ es) a =
@@ -42,7 +42,8 @@ contents_old c a e are not_released some = rw (not_released, among_kept c.kept a
 pub contents_new : (c : Contents) (a : Arrived) → is_released c.marks a ≡ false → entry_of c.kept a.client a.number ≡ None → contents_after c (a ∷ []) ≡ contents_with c a
 contents_new c a not_released none = rw (not_released, among_kept c.kept a, none) refl
 
--- an arrival by its three cases: what holds of the contents that each leaves, and of what it gets
+-- a property of the contents after an arrival and of its response is true if it is true in each of
+-- the three cases
 pub decided_by : (c : Contents) (a : Arrived) (P : Contents → HttpReply → Type 0) → AreAbove c
     → (is_released c.marks a ≡ true → P c (http_reply_of (NumberReleased (mark_of c.marks a.client))))
     → ((e : Entry) → is_released c.marks a ≡ false → entry_of c.kept a.client a.number ≡ Some e → P c (http_reply_by a.ask e))
@@ -68,11 +69,11 @@ pub above_after : (c : Contents) (a : Arrived) → AreAbove c → AreAbove (cont
 above_after c a are = decided_by c a (λ d http_reply. AreAbove d) are (λ released. are) (λ e no some. are)
     (λ no none. filter_passes (is_above (marks_with c.marks a)) (c.kept ++ entry_with a (reply_to c.facts c.marks a) ∷ []))
 
--- what holds of each entry, and of a new one
+-- a property of all entries and of the new one is true of all entries after the arrival
 pub kept_with : (c : Contents) (a : Arrived) (P : Entry → Type 0) → All P c.kept → P (entry_with a (reply_to c.facts c.marks a)) → All P (contents_with c a).kept
 kept_with c a P all new = All-filter (is_above (marks_with c.marks a)) P (c.kept ++ entry_with a (reply_to c.facts c.marks a) ∷ []) (All-push P c.kept (entry_with a (reply_to c.facts c.marks a)) all new)
 
--- ---- marks
+-- ---- release marks
 
 find_none : {X : Type 0} (p : X → Bool) (xs : List X) → find p (filter (λ x. not (p x)) xs) ≡ None
 find_none p [] = refl
@@ -82,7 +83,7 @@ find_none p (x ∷ xs) = elim (cases_Bool (p x)) [
       ∙ ap (λ b. cond b (Some x) (find p (filter (λ x. not (p x)) xs))) miss ∙ find_none p xs
 ]
 
--- what passes one test fails the other
+-- a search for an element isn't affected by filtering out others
 find_other : {X : Type 0} (p q : X → Bool) → ((x : X) → q x ≡ true → p x ≡ false) → (xs : List X) → find q (filter (λ x. not (p x)) xs) ≡ find q xs
 find_other p q apart [] = refl
 find_other p q apart (x ∷ xs) = elim (cases_Bool (p x)) [
@@ -122,7 +123,7 @@ mark_other marks client upto n apart =
     or_none None = refl
     or_none (Some m) = refl
 
--- a client's release mark, by what its clients did
+-- a call never lowers a release mark
 pub mark_after : (marks : List Mark) (client : List ℕ) (number : ℕ) (call : Call) (n : List ℕ) → mark_of marks n ≤ mark_of (marks_by marks client number call) n
 mark_after marks client number (Job r) n = omega arith
 mark_after marks client number (Release upto) n =
@@ -137,11 +138,11 @@ mark_after marks client number (Release upto) n =
       | inr other ↦ omega (arith, mark_other marks client (mark_by marks client upto) n other)
     ])
 
--- marks never fall
+-- release marks never fall
 pub marks_grow : (marks : List Mark) (a : Arrived) (n : List ℕ) → mark_of marks n ≤ mark_of (marks_with marks a) n
 marks_grow marks a n = mark_after marks a.client a.number a.request n
 
--- and stay below what each release stays below
+-- release marks stay below a limit that is above every release
 pub mark_below : (marks : List Mark) (client : List ℕ) (number upto : ℕ) (n : List ℕ) (most : ℕ) → upto < most → ((m : List ℕ) → mark_of marks m < most) → mark_of (marks_by marks client number (Release upto)) n < most
 mark_below marks client number upto n most near low =
     cond_both {A = List Mark} (nat_le number upto) marks (with_mark marks client (mark_by marks client upto)) (λ after. mark_of after n < most)
@@ -157,7 +158,7 @@ mark_below marks client number upto n most near low =
 pub with_above : (c : Contents) (a : Arrived) → AreAbove (contents_with c a)
 with_above c a = filter_passes (is_above (marks_with c.marks a)) (c.kept ++ entry_with a (reply_to c.facts c.marks a) ∷ [])
 
--- what is found is of the client and has the number
+-- the entry that is found has this client and number
 pub entry_is : (kept : List Entry) (client : List ℕ) (number : ℕ) (e : Entry) → entry_of kept client number ≡ Some e → (e.client ≡ client) × (e.number ≡ number)
 entry_is [] client number e found = absurd (none-some e found)
 entry_is (d ∷ kept) client number e found = elim (cases_Bool (bytes_eq d.client client && (d.number == number))) [

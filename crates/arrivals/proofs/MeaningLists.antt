@@ -1,4 +1,4 @@
--- Arrivals after arrivals, and repeats.
+-- Lemmas about lists of arrivals, and about repeats.
 use Rattle.std.proofs.Common.{◌≡◌, ◌≤◌, ◌==◌, ◌&&◌, ◌||◌, ℕ, Bool, false, cond, List, [], ◌∷◌, ◌++◌, map, Option, Some, None, refl, sym, ap, ◌∙◌, inl, inr, append_assoc, arith}
 use Rattle.std.specs.Prelude.{bytes_eq, is_some, nat_le, nat_lt}
 use Rattle.std.proofs.lemmas.Bool.{and_parts, cases_Bool, eqb-true, leb-false, ltb-false}
@@ -15,7 +15,7 @@ use Rattle.arrivals.proofs.MeaningLemmas.{above_after, among_kept, contents_new,
 abbrev key : Arrived → Number
 key a = (a.client, a.number)
 
--- ---- marks over a list
+-- ---- release marks after a list
 
 pub released_before : (marks now : List Mark) (x : Arrived) → ((n : List ℕ) → mark_of marks n ≤ mark_of now n) → is_released now x ≡ false → is_released marks x ≡ false
 released_before marks now x grow live = grind (arith, nat_tests, grow x.client)
@@ -24,7 +24,7 @@ marks_after_grow : (marks : List Mark) (xs : List Arrived) (n : List ℕ) → ma
 marks_after_grow marks [] n = omega arith
 marks_after_grow marks (x ∷ xs) n = omega (arith, marks_grow marks x n, marks_after_grow (marks_with marks x) xs n)
 
--- numbers that agree where none is released
+-- both lists contain the same numbers, except released ones
 abbrev Agree : List Mark → List Number → List Number → Type 0
 Agree marks ns ms = (x : Arrived) → is_released marks x ≡ false → is_among ns x ≡ is_among ms x
 
@@ -53,7 +53,7 @@ firsts_same marks ns ms (x ∷ xs) agree =
           ∙ ap (λ r. cond (is_released marks x || is_among ms x) (firsts ms marks xs) (x ∷ r)) more
     ]
 
--- what is dropped was released
+-- the numbers of discarded entries are released
 agree_above : (marks : List Mark) (es : List Entry) → Agree marks (map number_of es) (map number_of (above marks es))
 agree_above marks [] x live = refl
 agree_above marks (e ∷ es) x live =
@@ -88,7 +88,7 @@ above_twice marks now (e ∷ es) grow = elim (cases_Bool (is_above marks e)) [
       ap (λ b. above now (cond b (e ∷ above marks es) (above marks es))) gone ∙ above_twice marks now es grow ∙ sym (ap (λ b. cond b (e ∷ above now es) (above now es)) also)
 ]
 
--- the contents of facts, entries, marks and the firsts of arrivals
+-- the contents with these facts, entries and marks after the arrivals `new`
 abbrev built : Facts → List Mark → List Entry → List Arrived → Contents
 built f marks kept new = let now = marks_after marks new in record { facts = facts_after f new; kept = above now (kept ++ entries_of f marks new); marks = now }
 
@@ -134,7 +134,7 @@ one_then c a xs are = elim (cases_Bool (is_released c.marks a)) [
         ∙ ap (λ b. built c.facts c.marks c.kept (cond b (firsts ns c.marks xs) (a ∷ firsts (ns ++ key a ∷ []) (marks_with c.marks a) xs))) (among_kept c.kept a ∙ ap (λ (o : Option Entry). is_some o) some)
         ∙ sym (ap (λ d. contents_after d xs) (contents_old c a e are live some))
 
--- arrivals after arrivals
+-- the contents after two lists of arrivals, one after the other
 pub contents_after-append : (c : Contents) (xs ys : List Arrived) → AreAbove c → contents_after c (xs ++ ys) ≡ contents_after (contents_after c xs) ys
 contents_after-append c [] ys are = sym (ap (λ d. contents_after d ys) (none_after c are))
   where

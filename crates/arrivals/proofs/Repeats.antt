@@ -1,4 +1,4 @@
--- An arrival gets the same reply again, until its number is released.
+-- Proves that a repeat gets the same reply until its number is released.
 use Rattle.std.proofs.Common.{◌≡◌, ◌==◌, ◌&&◌, Bool, true, false, cond, List, [], ◌∷◌, ◌++◌, Some, None, refl, sym, ap, ◌∙◌, subst, inl, inr, eq-eqb, arith}
 use Rattle.std.specs.Prelude.{bytes_eq}
 use Rattle.std.proofs.lemmas.Bool.{and_parts, cases_Bool, cond-true, cond-false, eqb-true, false≢true}
@@ -14,11 +14,11 @@ use Rattle.arrivals.specs.Meaning.{Arrived, contents_after, entry_with, http_rep
 use Rattle.arrivals.proofs.MeaningLemmas.{above_after, decided_by, marks_grow, same_contents}
 use Rattle.arrivals.proofs.MeaningLists.{one_then, released_before}
 
--- the arrival's number is released, or its entry has this reply
+-- the number of the arrival is released, or its entry has this reply
 abbrev pub IsKeptFor : Contents → Arrived → HttpReply → Type 0
 IsKeptFor c a http_reply = is_released c.marks a ≡ false → (e : Entry) × (entry_of c.kept a.client a.number ≡ Some e) × (http_reply_by a.ask e ≡ http_reply)
 
--- an entry is found among those that are kept, if its number is not released
+-- an entry whose number isn't released is kept
 entry_above : (marks : List Mark) (es : List Entry) (a : Arrived) (e : Entry) → is_released marks a ≡ false → entry_of es a.client a.number ≡ Some e → entry_of (above marks es) a.client a.number ≡ Some e
 entry_above marks [] a e live found = absurd (none-some e found)
 entry_above marks (d ∷ es) a e live found =
@@ -60,7 +60,7 @@ found_last (d ∷ es) a e client number none =
       | inr miss ↦ ap (λ b. cond b (Some d) (entry_of (es ++ e ∷ []) a.client a.number)) miss ∙ found_last es a e client number (sym (cond-false p (Some d) (entry_of es a.client a.number) miss) ∙ none)
     ]
 
--- the reply to an arrival is its reply from then on
+-- the reply to an arrival is kept for its repeats
 pub own_reply_kept : (c : Contents) (a : Arrived) → AreAbove c → IsKeptFor (contents_after c (a ∷ [])) a (http_reply_on c a)
 own_reply_kept c a are =
     decided_by c a (λ d http_reply. IsKeptFor d a http_reply) are
@@ -72,7 +72,7 @@ own_reply_kept c a are =
     let same : bytes_eq a.ask a.ask ≡ true = (bytes_eq-Decides a.ask a.ask).1 refl in
     (entry, entry_above (marks_with c.marks a) (c.kept ++ entry ∷ []) a entry live (found_last c.kept a entry refl refl none), cond-true (bytes_eq a.ask a.ask) (http_reply_of reply) reused same))
 
--- and so does each other arrival leave it
+-- another arrival doesn't change the kept reply, unless it releases the number
 pub reply_still_kept : (c : Contents) (a b : Arrived) (http_reply : HttpReply) → AreAbove c → IsKeptFor c b http_reply → IsKeptFor (contents_after c (a ∷ [])) b http_reply
 reply_still_kept c a b http_reply are is =
     decided_by c a (λ d t. IsKeptFor d b http_reply) are (λ gone. is) (λ e first some. is)
@@ -81,7 +81,7 @@ reply_still_kept c a b http_reply are is =
     let entry = entry_with a (reply_to c.facts c.marks a) in
     (was.0, entry_above (marks_with c.marks a) (c.kept ++ entry ∷ []) b was.0 live (found_more c.kept (entry ∷ []) b was.0 was.1), was.2))
 
--- a repeat gets this reply
+-- a repeat gets the kept reply
 pub repeat_gets_reply : (c : Contents) (a : Arrived) (http_reply : HttpReply) → IsKeptFor c a http_reply → is_released c.marks a ≡ false → http_reply_on c a ≡ http_reply
 repeat_gets_reply c a http_reply is live =
     let e = is live in
@@ -89,7 +89,7 @@ repeat_gets_reply c a http_reply is live =
     cond-false (is_released c.marks a) (http_reply_of (NumberReleased (mark_of c.marks a.client))) (by_option (entry_of c.kept a.client a.number) first (http_reply_by a.ask)) live
     ∙ ap (λ o. by_option o first (http_reply_by a.ask)) e.1 ∙ e.2
 
--- whatever comes between
+-- no list of arrivals changes the kept reply, unless it releases the number
 kept_for : (c : Contents) (b : Arrived) (http_reply : HttpReply) (between : List Arrived) → AreAbove c → IsKeptFor c b http_reply → IsKeptFor (contents_after c between) b http_reply
 kept_for c b http_reply [] are is = subst (λ d. IsKeptFor d b http_reply) (sym (same_contents c are)) is
 kept_for c b http_reply (a ∷ between) are is =

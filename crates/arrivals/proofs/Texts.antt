@@ -1,4 +1,4 @@
--- The values of replies have no float.
+-- Proves that the values of replies have no floating-point numbers.
 use Rattle.std.proofs.Common.{◌≡◌, false, refl}
 use Rattle.serde_json.specs.Written.{has_float}
 use Rattle.job_facts.specs.declared.reply.Reply.{Reply}

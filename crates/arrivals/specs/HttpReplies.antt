@@ -1,5 +1,5 @@
--- What a client gets for a reply (this project's profile): its status, and its body, which is
--- compact JSON (RFC 8259) with the members in order of their names.
+-- Defines the response for a reply (this project's profile): its status, and its body, which is
+-- compact JSON (RFC 8259) with the members sorted by name.
 use Rattle.std.specs.Prelude.{ℕ, List}
 use Rattle.job_facts.specs.declared.refusal.Refusal.TheVariants.{NumberReused}
 use Rattle.job_facts.specs.declared.reply.Reply.{Reply}
@@ -12,7 +12,7 @@ pub record HttpReply : Type 0 where
   pub status : ℕ
   pub body : List ℕ
 
--- 409 for every refusal, 200 for what was accepted
+-- 200 if the request was accepted, 409 if it was refused
 abbrev pub status_of : Reply → ℕ
 status_of (Product p made) = 200
 status_of (Lot l made) = 200
@@ -39,7 +39,7 @@ body_of r = compact_text (value_of r)
 abbrev pub http_reply_of : Reply → HttpReply
 http_reply_of reply = record { status = status_of reply; body = body_of reply }
 
--- the number is kept with another ask
+-- the response if the number was used with different request bytes
 abbrev pub reused : HttpReply
 reused = http_reply_of (Refused NumberReused)
 

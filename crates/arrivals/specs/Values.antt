@@ -1,4 +1,4 @@
--- The JSON value of a reply.
+-- Defines the JSON value of a reply.
 use Rattle.std.specs.Prelude.{◌≡◌, ℕ, true, List, codes}
 use Rattle.std.specs.List.{list_all}
 use Rattle.hex.specs.Hex.{encode_upper}
@@ -48,6 +48,6 @@ value_of (NumberReleased mark) = object (member (codes "code") (num 73) (member 
 value_of (Faulty fault) =
     object (member (codes "code") (num (kind_code_of fault.kind)) (member (codes "refused") (string (kind_name_of fault.kind)) (member (codes "row") (num fault.row) no_members)))
 
--- of characters that need no escape in JSON: those of names
+-- JSON escapes none of these characters, because all of them may occur in names
 abbrev pub IsPlain : List ℕ → Type 0
 IsPlain xs = list_all is_name_char xs ≡ true

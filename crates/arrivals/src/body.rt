@@ -1,4 +1,4 @@
-//! The texts of replies: compact JSON (RFC 8259), members in order of their names.
+//! Writes replies as compact JSON (RFC 8259), with the members sorted by name.
 ghost use Rattle.std.specs.Prelude.{◌≡◌, IfOk, string_bytes};
 ghost use Rattle.hex.specs.Hex.{encode_upper};
 ghost use Rattle.json.specs.Print.{escape};
@@ -12,8 +12,8 @@ use serde_json::{Value, json};
 use std::alloc::{AllocError, Global};
 use store_data::{Bytes, Name};
 
-/// The HTTP status of a reply: 409 for every refusal, 200 for what was accepted (this project's
-/// profile).
+/// Returns the HTTP status of `reply`: 200 if the request was accepted, 409 if it was refused (this
+/// project's profile).
 pub fn status_of(reply: &Reply) -> u16
     ensures { result ≡ status_of reply.now }
 {
@@ -26,8 +26,12 @@ pub fn status_of(reply: &Reply) -> u16
     }
 }
 
-/// The body of a reply: compact JSON (RFC 8259), the members in order of their names (this
-/// project's profile). It fails only where memory is refused.
+/// Returns the body of the response with `reply`: compact JSON (RFC 8259) with the members sorted
+/// by name (this project's profile).
+///
+/// # Errors
+///
+/// Returns `AllocError` if an allocation fails.
 pub fn body_of(alloc: Global, reply: &Reply) -> Result<Bytes, AllocError>
     ensures { IfOk result (λ body. body ≡ body_of reply.now) }
 {
@@ -74,7 +78,7 @@ fn value_of(alloc: Global, reply: &Reply) -> Result<Value, AllocError>
     }
 }
 
-// Whether something was made, as replies name it.
+// Returns the word for `made` in replies.
 fn made_name(made: Made) -> &'static str
     ensures { result.now ≡ made_name made }
 {
@@ -193,7 +197,7 @@ fn faulty_value(alloc: Global, fault: RowFault) -> Result<Value, AllocError>
     })
 }
 
-/// A name as JSON has it: none of its characters needs an escape (RFC 8259).
+/// Returns `name` as it appears in JSON. None of its characters is escaped (RFC 8259).
 pub fn name_text(name: &Name) -> &str
     ensures text { result.now ≡ name.now }
     ensures plain { IsPlain name.now }
@@ -202,7 +206,7 @@ pub fn name_text(name: &Name) -> &str
     std::str::from_utf8(name.bytes()).unwrap()
 }
 
-// Bytes in upper case hexadecimal.
+// Returns `bytes` in upper-case hexadecimal.
 fn hex_of(alloc: Global, bytes: &[u8]) -> Result<String, AllocError>
     ensures { IfOk result (λ text. string_bytes text ≡ encode_upper bytes.now) }
 {

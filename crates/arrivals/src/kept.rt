@@ -1,11 +1,11 @@
-//! What an arrival gets.
+//! The response to an arrival.
 use store_data::Bytes;
 
-/// What an arrival gets: an HTTP status and a body in JSON (this project's profile).
+/// The response to an arrival: an HTTP status and a JSON body (this project's profile).
 #[derive(Drop)]
 pub struct Kept {
-    /// 200, or 409 for every refusal.
+    /// The status: 200, or 409 for a refusal.
     pub status: u16,
-    /// Compact JSON.
+    /// The body, which is compact JSON.
     pub body: Bytes,
 }

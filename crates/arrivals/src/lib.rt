@@ -1,5 +1,5 @@
-//! Arrivals and what they mean, with no store in sight: what a client gets for a reply, and what a
-//! list of arrivals leaves.
+//! The meaning of arrivals, independent of a store: the response for a reply, and the contents
+//! after a list of arrivals.
 #![tactic(auto)]
 
 ghost use Rattle.arrivals.specs.Laws.{AreAnsweredAlike, AreInTurn, RepeatsGetTheirReply};
@@ -10,17 +10,20 @@ mod kept;
 pub use body::{body_of, name_text, status_of};
 pub use kept::Kept;
 
-/// Arrivals after arrivals: a law, for the proof of one who takes them in turn. It does nothing.
+/// Lemma: the contents after a list of arrivals can be computed one arrival at a time. A function
+/// that handles arrivals in a loop needs it for its proof.
 pub fn in_turn()
     ensures { AreInTurn }
 {}
 
-/// A repeat gets the same reply again, unless its number was released: a law. It does nothing.
+/// Lemma: a repeat gets the same reply again, unless its number was released.
 pub fn repeats_get_their_reply()
     ensures { RepeatsGetTheirReply }
 {}
 
-/// The same contents, in whatever order sets and maps stand, answer alike: a law. It does nothing.
+/// Lemma: contents that differ only in the order of sets and maps give the same replies. A store
+/// can therefore have its sets in any order after a crash, and machines still get the same replies.
+/// The lemma `step_laws::same_facts_answer_alike` states the same for accounts and reports.
 pub fn same_contents_answer_alike()
     ensures { AreAnsweredAlike }
 {

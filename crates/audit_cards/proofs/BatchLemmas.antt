@@ -1,4 +1,4 @@
--- A batch against its file and its sessions.
+-- The checks of a batch against its file and its sessions.
 use Rattle.std.proofs.Common.{◌≡◌, ℕ, ◌-◌, ◌<◌, true, cond, ltb, ◌&&◌, List, [], ◌∷◌, length, get_or, map, All, Some, None, Ok, refl, sym, ap, ◌∙◌, subst, arith}
 use Rattle.std.specs.Prelude.{◌==◌, IsPermutation, IsTrue, filter, find}
 use Rattle.std.specs.List.{enumerate_from, list_all, position_or_len, slice_get}
@@ -184,7 +184,7 @@ module _ (t : Tables) (b : StoredBatch) (p : Product) (groups : List (List Row))
       let id : (get_or mine k d).batch ≡ b.id = grind (arith, nat_tests) in
       place_found (get_or mine k d) id a.rec a.rec_is)
 
--- ---- the sessions of a batch among those by their records
+-- ---- the sessions of a batch, among all sessions in the order of their records
 
 module _ (sessions by_record : List StoredSession) (by : AreByRecord sessions by_record) (id : ℕ) (own : List StoredSession) (own_are : own ≡ filter (is_session_of id) by_record) where
   pub own_same : IsPermutation (filter (is_session_of id) sessions) own
@@ -197,7 +197,7 @@ module _ (sessions by_record : List StoredSession) (by : AreByRecord sessions by
   own_at place =
       ap (filter (λ (s : StoredSession). s.place == place)) own_are ∙ filter-both (λ (s : StoredSession). s.place == place) (is_session_of id) by_record ∙ by.stable id place
 
--- ---- all of a batch
+-- ---- a whole batch
 
 module _ (t : Tables) (b : StoredBatch) (p : Product) (rows : List Row) (groups : List (List Row)) (records : List StoredRecord) (sessions : List StoredSession)
     (has : HasFile t b p groups records sessions) (same : IsPermutation (filter (is_session_of b.id) t.sessions) sessions) (file_is : has.file ≡ rows) where
@@ -240,7 +240,7 @@ module _ (t : Tables) (b : StoredBatch) (p : Product) (rows : List Row) (records
   pub all_placed : IsAuditedFile t b → All (λ (s : StoredSession). s.place < length records) own
   all_placed a = are_placed t b p (grouped (λ (row : Row). row.rec) rows) records own file_parts (own_same t.sessions by_record by b.id own own_are) a.each_session
 
--- ---- places, by the last of them
+-- ---- the places of all sessions, from the last one
 
 pub by_last : (xs : List StoredSession) → IsNonDecreasingBy (λ (s : StoredSession). s.place) xs → (x : StoredSession) → true ≡ ltb 0 (length xs) → x ≡ get_or xs (length xs - 1) x
     → (place count : ℕ) → place ≡ x.place → (ltb place count ≡ true → All (λ (s : StoredSession). s.place < count) xs) × (All (λ (s : StoredSession). s.place < count) xs → ltb place count ≡ true)
@@ -266,7 +266,7 @@ module _ (t : Tables) (b : StoredBatch) (p : Product) (rows : List Row) (r : Sto
   pub own_with : IsAuditedWith t r → IsAuditedRecord t r × All (IsAuditedSession t) own
   own_with a = (a.0, subst (All (IsAuditedSession t)) (sym has.own_are) a.1)
 
--- the rows of the record at a place, where the rows of each stand in a list of their own
+-- the rows of the record at a place, if `groups` has one list of rows for each record
 module _ {G : Type 0} (items : G → List Row) (groups : List G) (t : Tables) (b : StoredBatch) (p : Product) (records : List StoredRecord) (sessions : List StoredSession)
     (has : HasFile t b p (map items groups) records sessions) where
   pub groups_many : length groups ≡ length records

@@ -1,4 +1,4 @@
--- Sessions that are sorted by their records.
+-- Sessions sorted by their records.
 use Rattle.std.proofs.Common.{◌≡◌, ℕ, ◌==◌, Bool, true, false, ◌&&◌, List, [], ◌∷◌, refl, sym, ap, ◌∙◌, subst}
 use Rattle.std.specs.Prelude.{IsPermutation, filter}
 use Rattle.std.proofs.lemmas.List.Elements.{filter_agree}

@@ -1,4 +1,4 @@
--- A card goes on by one word.
+-- The state of a card after one more status word.
 use Rattle.std.proofs.Common.{◌≡◌, ℕ, is_some, suc, Bool, true, false, not, ◌+◌, ◌<◌, ◌^◌, List, [], ◌∷◌, ◌++◌, length, take, drop, get_or, Some, Option, refl, sym, ap, ◌∙◌, arith, inl, inr}
 use Rattle.std.specs.Prelude.{◌==◌, if◌then◌else◌, option_map, slice_get}
 use Rattle.std.proofs.lemmas.Bool.{cases_lt, false≢true}
@@ -22,7 +22,7 @@ use Rattle.store_data.proofs.CursorLemmas.{slice_get-middle, tolerance_there}
 no_words : (commands : List Command) → AreWords commands []
 no_words commands = record { few = omega arith; go = λ k sw there last. absurd (omega arith); ranged = All-nil (λ w. w < 2 ^ 16) }
 
--- where a segment stands, a command does
+-- If the plan has a segment at the cursor, it also has a command there.
 pub command_there : (plan : Plan) → IsPlan plan → (k : ℕ) (c : Cursor) → cursor_at plan k ≡ Some c → (v : PlacedSegment) → segment_at plan c.app c.segment ≡ Some v
     → k < length (commands_of plan)
 command_there plan is k c at v there =
@@ -33,7 +33,7 @@ pub Leaves-none : (plan : Plan) (c : Cursor) → cursor_at plan 0 ≡ Some c →
 Leaves-none plan c at = record { words_are = no_words (commands_of plan); stops_is = refl; at = at }
 
 module _ (commands : List Command) where
-  -- the last word, by its place
+  -- the effect of the last status word, by its index
   stops_by : (words : List ℕ) (k w : ℕ) → length words ≡ suc k → slice_get words k ≡ Some w → last_stops commands words ≡ not (goes_at commands k w)
   stops_by words k w count at =
       let here : 0 + k ≡ k = omega arith in
@@ -47,7 +47,7 @@ module _ (commands : List Command) where
   not-false true e = absurd (false≢true (sym e))
   not-false false e = refl
 
-  -- where the last word goes, each does
+  -- If the last status word lets the session continue, every status word does.
   each_goes : (words : List ℕ) → AreWords commands words → last_stops commands words ≡ false → (k w : ℕ) → slice_get words k ≡ Some w → goes_at commands k w ≡ true
   each_goes words are goes k w there =
       let within : k < length words = slice_get_within words k w there in
@@ -68,7 +68,7 @@ module _ (commands : List Command) where
     ranged = All-push (λ v. v < 2 ^ 16) words w are.ranged small;
   }
 
-  -- no word may follow one that stops
+  -- No status word can follow a word that spoils the session.
   none_after_stop : (words more : List ℕ) (w : ℕ) → last_stops commands words ≡ true → AreWords commands (words ++ w ∷ more) → ⊥
   none_after_stop [] more w stops are = false≢true stops
   none_after_stop (v ∷ words) more w stops are =
@@ -127,7 +127,7 @@ pub state_at_end : (plan : Plan) → IsPlan plan → (s : Session) (c : Cursor) 
 state_at_end plan is s c end left ended view there some =
     state_by_count (commands_of plan) s end ended left.stops_is (sym (end_of_view plan is (length s.words) c (at_length plan s.words c left) view end there some))
 
--- the words around one
+-- the status words before and after word `i`
 pub status_split : (words : List StoredWord) (i : ℕ) (w : StoredWord) → i < length words → w ≡ get_or words i w
     → status_words words ≡ status_words (take i words) ++ w.sw ∷ status_words (drop (i + 1) words)
 status_split words i w within is =

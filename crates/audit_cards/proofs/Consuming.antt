@@ -1,11 +1,11 @@
--- A list that is joined of pieces, taken from the front piece by piece.
+-- A list that is a concatenation of pieces, which are removed from the front one by one.
 use Rattle.std.proofs.Common.{◌≡◌, ℕ, ◌+◌, ◌<◌, ◌≤◌, List, [], ◌∷◌, ◌++◌, length, take, drop, get_or, sym, ap, ◌∙◌, append_assoc, append-nil}
 use Rattle.std.specs.Prelude.{flat_map}
 use Rattle.std.proofs.lemmas.List.{append_cancel_left, drop_more, take-append-drop, take_all, take_more}
 use Rattle.std.proofs.lemmas.List.Concat.{flat_map-append}
 
 module _ {X A : Type 0} (f : X → List A) (xs : List X) (all : List A) where
-  -- so many of the pieces are taken, and this is left
+  -- After the first `i` pieces are removed, `rest` is left.
   abbrev pub Leaves : ℕ → List A → Type 0
   Leaves i rest = all ≡ flat_map f (take i xs) ++ rest
 

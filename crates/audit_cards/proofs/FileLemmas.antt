@@ -1,4 +1,4 @@
--- The records of a batch's file, one after the other.
+-- The records of a batch file, in file order.
 use Rattle.std.proofs.Common.{◌≡◌, ℕ, ◌<◌, List, [], length, get_or, Some, refl, sym, ap, ◌∙◌, subst, arith}
 use Rattle.std.specs.Prelude.{◌==◌, bytes_eq, filter, find}
 use Rattle.std.specs.List.{enumerate_from, position_or_len, slice_get}
@@ -26,7 +26,7 @@ use Rattle.audit_cards.specs.Sessions.{HasRows}
 use Rattle.audit_cards.proofs.RowLemmas.{keys_at}
 use Rattle.audit_order.proofs.SameLists.{get_or-map}
 
--- the rows of a batch, where its file is read
+-- the rows of a batch whose file has no fault
 pub rows_are_read : (products : List Product) (b : Batch) (p : Product) (rows : List Row) → product_named products b.product ≡ Some p → IsFileOf p b.raw rows → rows_of products b ≡ rows
 unfolding rows_of
 rows_are_read products b p rows there is = rw there (rw is.read refl)

@@ -1,4 +1,4 @@
--- A record's row against the states of its sessions.
+-- The checks of the row of a record against the states of its sessions.
 use Rattle.std.proofs.Common.{◌≡◌, ℕ, ◌+◌, Bool, cond, ◌||◌, ltb, List, [], ◌∷◌, get_or, All, inl, inr, refl, sym, ap, ◌∙◌, subst, arith}
 use Rattle.std.specs.Prelude.{◌==◌, count_by, filter, find}
 use Rattle.std.specs.List.{list_any}
@@ -19,7 +19,7 @@ use Rattle.row_laws.proofs.TotalRows.{sum_by-map}
 use Rattle.audit_laws.specs.Audited.{IsAuditedRecord, is_session_at, is_withdrawn, states_at}
 use Rattle.audit_cards.specs.Sessions.{HasPlan, HasRows, IsSoundCount, StandsBy, state_by_count, states_in}
 
--- some pass where their count is not 0
+-- An element satisfies `p` if and only if the number of such elements isn't 0.
 pub any_by_count : {X : Type 0} (p : X → Bool) (xs : List X) → list_any p xs ≡ ltb 0 (count_by p xs)
 any_by_count p [] = refl
 any_by_count p (x ∷ xs) = elim (cases_Bool (p x)) [
@@ -56,7 +56,7 @@ module _ (states : List SessionState) (withdrawn : Bool) (remakes : ℕ) where
   }
 
 module _ (own : List StoredSession) (r : StoredRecord) where
-  -- how many of the sessions stand so
+  -- the number of sessions whose state satisfies `p`
   abbrev pub so : (SessionState → Bool) → ℕ
   so p = count_by (λ (s : StoredSession). p s.state) own
 
@@ -90,7 +90,7 @@ module _ (own : List StoredSession) (r : StoredRecord) where
       subst (λ n. IsSoundCount (so has_card) n (is_withdrawn r) r.remakes) (counted is_spoiled)
       (subst (λ n. IsSoundCount n (count_by is_spoiled (states_in own)) (is_withdrawn r) r.remakes) (counted has_card) (count_of_sound (states_in own) (is_withdrawn r) r.remakes a.sound))
 
-  -- the same by counts that are given
+  -- the conditions of `StandsBy`, for counts that are given
   module _ (good running spoiled : ℕ) (state : RecordState) (good_is : good ≡ so is_good) (running_is : running ≡ so is_running) (spoiled_is : spoiled ≡ so is_spoiled)
       (state_in_rows : state ≡ state_by_count (ltb 0 good) (ltb 0 running) (is_withdrawn r) (ltb r.remakes spoiled)) where
     states_agree : state ≡ counts

@@ -1,4 +1,4 @@
--- Rows of records, groupings and remakes, each by what gives it.
+-- The rows of records, groupings and remakes, each compared with the value from which it is built.
 use Rattle.std.proofs.Common.{◌≡◌, ℕ, ◌+◌, ◌<◌, Bool, true, false, not, ltb, List, [], ◌∷◌, ◌++◌, length, take, get_or, map, fold, Some, refl, sym, ap, ◌∙◌, arith}
 use Rattle.std.specs.Prelude.{AllPairs, bytes_eq, slice_get}
 use Rattle.std.specs.List.{enumerate_from, list_any, position_or_len}
@@ -116,13 +116,13 @@ turns_count r = length-map-range_with_len (turn_of r) 1 r.remakes
 pub turn_here : (r : StoredRecord) (k : ℕ) → k < r.remakes → (y : StoredRemake) → y ≡ turn_of r (1 + k) → y ≡ get_or (turns_of r) k y
 turn_here r k within y is = is ∙ sym (get_or-map-range_with_len (turn_of r) 1 r.remakes k (1 + k) y within refl)
 
--- no two are one
+-- No two names are equal.
 distinct_once : (names : List (List ℕ)) → Distinct names → AllPairs (λ (m k : List ℕ). bytes_eq m k ≡ false) names
 distinct_once [] distinct = λ i j d before within. absurd (omega arith)
 distinct_once (n ∷ names) distinct =
     AllPairs-cons (λ (m k : List ℕ). bytes_eq m k ≡ false) n names (All-from_list_any (bytes_eq n) names distinct.0) (distinct_once names distinct.1)
 
--- ---- the name of a row is among those of its file
+-- ---- the names of a file include the record name of each row
 
 pub named_here : (rows : List Row) (k : ℕ) (row : Row) → k < length rows → row ≡ get_or rows k row → IsNamed row.rec (names_in rows)
 named_here rows k row within is = record {

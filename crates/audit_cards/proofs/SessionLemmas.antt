@@ -1,4 +1,4 @@
--- A session's row against its words.
+-- The checks of the row of a session against its status words.
 use Rattle.std.proofs.Common.{◌≡◌, Bool, length, Some, sym, ap, ◌∙◌, subst}
 use Rattle.std.proofs.lemmas.Option.{same_Some}
 use Rattle.store_data.specs.declared.cursor.Cursor.{Cursor}
@@ -33,7 +33,7 @@ module _ (t : Tables) (s : StoredSession) (b : StoredBatch) (plan : Plan) (has :
     fits = fits.2;
   }
 
-  -- what an audited session says of this plan
+  -- the conditions of `IsAuditedSession`, for this plan
   pub record Says : Type 0 where
     pub words : AreWords (commands_of plan) (words_of t.words s.id)
     pub state : s.state ≡ state_with (commands_of plan) (named_session t s)
@@ -61,6 +61,6 @@ module _ (t : Tables) (s : StoredSession) (b : StoredBatch) (plan : Plan) (has :
       ∙ sym has.plan_is in
       says_of a batch plan_is
 
-  -- the cursor, where the card is left
+  -- The cursor in the row is the cursor after the status words.
   pub cursor_says : (c : Cursor) (stops : Bool) → Leaves plan (words_of t.words s.id) c stops → Says → s.cursor ≡ c
   cursor_says c stops left said = same_Some s.cursor c (sym said.cursor ∙ left.at)

@@ -1,4 +1,4 @@
--- What a session's row, a record's row and a batch's rows are tested for.
+-- The conditions that are checked for the rows of sessions, records and batches.
 use Rattle.std.specs.Prelude.{◌≡◌, ◌≤◌, ◌+◌, ℕ, Bool, true, List, All, Some, IsPermutation, count_by, map, filter, find, if◌then◌else◌}
 use Rattle.std.specs.List.Sorted.{IsNonDecreasingBy}
 use Rattle.store_data.specs.declared.row.Product.{Product}
@@ -17,7 +17,7 @@ use Rattle.table_rows.specs.Keys.{is_batch, is_grouping_of, is_record_at, is_rec
 use Rattle.audit_laws.specs.Audited.{IsAuditedBatch, IsAuditedRecord, IsAuditedSession, file_groupings, file_keys, file_rows, is_session_at, is_session_of, is_withdrawn, key_of}
 use Rattle.audit_order.specs.Order.{lots_of}
 
--- the record at this place of the batch with this id has this plan
+-- Batch `b` has the id `id`, and the plan of its record at `place` is `plan`.
 pub record HasPlan (t : Tables) (id place : ℕ) (b : StoredBatch) (plan : Plan) : Type 0 where
   pub batch_is : find (is_batch id) t.batches ≡ Some b
   pub rec : StoredRecord
@@ -26,32 +26,33 @@ pub record HasPlan (t : Tables) (id place : ℕ) (b : StoredBatch) (plan : Plan)
   pub product_is : product_named t.products b.product ≡ Some product
   pub plan_is : plan ≡ plan_of product (rows_of_record (file_rows t b) rec.name)
 
--- the serial lies in a lot for this product
+-- The blank `serial` is in a lot of the product `product`.
 abbrev pub IsFor : Tables → ℕ → List ℕ → Type 0
 IsFor t serial product = (lot : Lot) × (lot_of (lots_of t.lots) serial ≡ Some lot) × (lot.product ≡ product)
 
--- the states of sessions
+-- the states of these sessions
 abbrev pub states_in : List StoredSession → List SessionState
 states_in sessions = map (λ (s : StoredSession). s.state) sessions
 
--- the record stands as its sessions' states say
+-- Row `r` is right for a record whose sessions have these states.
 pub record StandsBy (states : List SessionState) (r : StoredRecord) : Type 0 where
   pub sound : IsSoundRecord states (is_withdrawn r) r.remakes
   pub state : r.state ≡ state_by states (is_withdrawn r) r.remakes
   pub spoiled : r.spoiled ≡ count_by is_spoiled states
 
--- the sessions by their records, those of each in the order of their ids
+-- `by_record` are the sessions in the order of their batches and places. Sessions of the same
+-- record keep their order.
 pub record AreByRecord (sessions by_record : List StoredSession) : Type 0 where
   pub same : IsPermutation sessions by_record
   pub batches : IsNonDecreasingBy (λ (s : StoredSession). s.batch) by_record
   pub places : (id : ℕ) → IsNonDecreasingBy (λ (s : StoredSession). s.place) (filter (is_session_of id) by_record)
   pub stable : (id place : ℕ) → filter (is_session_at id place) by_record ≡ filter (is_session_at id place) sessions
 
--- a record and each session of it
+-- Record `r` and all its sessions obey the audit rules.
 abbrev pub IsAuditedWith : Tables → StoredRecord → Type 0
 IsAuditedWith t r = IsAuditedRecord t r × All (IsAuditedSession t) (filter (is_session_at r.batch r.place) t.sessions)
 
--- a batch with its file, its records, groupings and sessions
+-- Batch `b` obeys the audit rules, together with its file, records, groupings and sessions.
 pub record IsAuditedFile (t : Tables) (b : StoredBatch) : Type 0 where
   pub batch : IsBatch t.products (batch_of_row b)
   pub records : map key_of (filter (is_record_of b.id) t.records) ≡ file_keys t b
@@ -60,7 +61,8 @@ pub record IsAuditedFile (t : Tables) (b : StoredBatch) : Type 0 where
   pub each_session : All (IsAuditedSession t) (filter (is_session_of b.id) t.sessions)
   pub counts : IsAuditedBatch t b
 
--- a record of a batch, with its product, its rows and its sessions
+-- Record `r` belongs to batch `b` with the product `product`. Its rows in the batch file are
+-- `rows`, and its sessions are `own`.
 pub record HasRows (t : Tables) (b : StoredBatch) (product : Product) (rows : List Row) (r : StoredRecord) (own : List StoredSession) : Type 0 where
   pub batch_is : find (is_batch r.batch) t.batches ≡ Some b
   pub product_is : product_named t.products b.product ≡ Some product
@@ -69,7 +71,8 @@ pub record HasRows (t : Tables) (b : StoredBatch) (product : Product) (rows : Li
   pub planned : HavePlan product rows
   pub own_are : own ≡ filter (is_session_at r.batch r.place) t.sessions
 
--- how often a record may be spoiled and remade, by how many of its sessions are good or run
+-- A record can have `cards` sessions that are good or running, `spoiled` spoiled sessions, and
+-- `remakes` remakes.
 pub record IsSoundCount (cards spoiled : ℕ) (withdrawn : Bool) (remakes : ℕ) : Type 0 where
   pub one_card : cards ≤ 1
   pub remade_least : spoiled ≤ remakes + 1
@@ -77,8 +80,9 @@ pub record IsSoundCount (cards spoiled : ℕ) (withdrawn : Bool) (remakes : ℕ)
   pub remade_all : 1 ≤ cards → remakes ≡ spoiled
   pub withdrawn_none : withdrawn ≡ true → cards ≡ 0
 
--- the state of a record, by whether a session of it is good, whether one runs, whether it is
--- withdrawn, and whether it failed
+-- the state of a record: `good` is true if one of its sessions is good, `running` if one is
+-- running, `withdrawn` if the record is withdrawn, and `failed` if it has fewer remakes than
+-- spoiled sessions
 abbrev pub state_by_count : Bool → Bool → Bool → Bool → RecordState
 state_by_count good running withdrawn failed =
     if good then rec.Good
@@ -87,6 +91,6 @@ state_by_count good running withdrawn failed =
     else if failed then rec.Failed
     else rec.Waiting
 
--- a turn of a record
+-- the row of `remake` for a turn of record `r`
 abbrev pub turn_of : StoredRecord → ℕ → StoredRemake
 turn_of r turn = record { batch = r.batch; place = r.place; turn = turn }

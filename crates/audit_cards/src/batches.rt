@@ -1,4 +1,4 @@
-//! Batches, with their files, their records, groupings and sessions.
+//! Checks a batch with its file, records, groupings and sessions.
 ghost use Rattle.std.specs.Prelude.{◌≡◌, ◌↔◌, ◌<◌, IfOk, IfSome, IsTrue, All, Some, None, true};
 ghost use Rattle.std.specs.Prelude.{filter, find, map};
 ghost use Rattle.std.specs.List.Sorted.{IsNonDecreasingBy};
@@ -23,14 +23,13 @@ use std::alloc::{AllocError, Global};
 use store_data::{Name, Product, Row, grouped};
 use table_rows::{StoredBatch, StoredGrouping, StoredRecord, Tables};
 
-// Whether a batch has a name.
 fn is_named(batch: &StoredBatch) -> bool
     ensures { result ≡ is_name batch.now.name }
 {
     is_name(&batch.name)
 }
 
-// The product of a batch.
+// Returns the product of `batch`.
 fn product_for(tables: &Tables, batch: &StoredBatch) -> Option<Product>
     requires { AreReady tables.now }
     ensures value { result ≡ product_named tables.now.products batch.now.product }
@@ -39,7 +38,6 @@ fn product_for(tables: &Tables, batch: &StoredBatch) -> Option<Product>
     product_named(&tables.products, &batch.product)
 }
 
-// The rows of a batch's records.
 fn records_of<'a>(tables: &'a Tables, batch: &StoredBatch) -> &'a [StoredRecord]
     requires { AreReady tables.now }
     ensures { result.now ≡ filter (is_record_of batch.now.id) tables.now.records }
@@ -47,7 +45,6 @@ fn records_of<'a>(tables: &'a Tables, batch: &StoredBatch) -> &'a [StoredRecord]
     range_of(&tables.records, batch.id)
 }
 
-// The rows of a batch's sessions.
 fn sessions_of<'a, 'b>(by_record: &'b [SessionRef<'a>], batch: &StoredBatch) -> &'b [SessionRef<'a>]
     requires { IsNonDecreasingBy (λ (s : SessionValue). s.batch) by_record.now }
     ensures { result.now ≡ filter (is_session_of batch.now.id) by_record.now }
@@ -55,14 +52,13 @@ fn sessions_of<'a, 'b>(by_record: &'b [SessionRef<'a>], batch: &StoredBatch) -> 
     range_of(by_record, batch.id)
 }
 
-// Whether these are the rows of the records of these names.
+// Returns `true` if `records` are the rows of records with these names, in this order.
 fn has_records(batch: &StoredBatch, records: &[StoredRecord], names: &[Name]) -> bool
     ensures { IsTrue result ↔ (map key_of records.now ≡ keys_of batch.now.id names.now) }
 {
     are_records(records, batch.id, names)
 }
 
-// The rows of a batch's groupings.
 fn groupings_of<'a>(tables: &'a Tables, batch: &StoredBatch) -> &'a [StoredGrouping]
     requires { AreReady tables.now }
     ensures { result.now ≡ filter (is_grouping_of batch.now.id) tables.now.groupings }
@@ -70,8 +66,8 @@ fn groupings_of<'a>(tables: &'a Tables, batch: &StoredBatch) -> &'a [StoredGroup
     range_of(&tables.groupings, batch.id)
 }
 
-// Whether these are the rows of the rows of the batch's file, the records of which have these
-// names.
+// Returns `true` if `groupings` are the rows of `grouping2` for `rows`, the rows of the batch file.
+// `names` are the names of its records.
 fn has_groupings(
     batch: &StoredBatch,
     groupings: &[StoredGrouping],
@@ -84,7 +80,7 @@ fn has_groupings(
     are_groupings(groupings, batch.id, rows, names)
 }
 
-// The rows of a batch's file, if it has no fault under its product.
+// Returns the rows of the batch file, or `None` if it has a fault under `product`.
 fn file_rows(
     alloc: Global,
     product: &Product,
@@ -103,7 +99,8 @@ fn file_rows(
     }
 }
 
-// Whether each session of a batch is of one of its records.
+// Returns `true` if the batch has a record for each of its sessions. Only the last session is
+// tested, because they are sorted by place.
 fn are_placed(sessions: &[SessionRef<'_>], records: usize) -> bool
     requires { IsNonDecreasingBy (λ (s : SessionValue). s.place) sessions.now }
     ensures { IsTrue result ↔ All (λ (s : SessionValue). s.place < records) sessions.now }
@@ -114,7 +111,8 @@ fn are_placed(sessions: &[SessionRef<'_>], records: usize) -> bool
     }
 }
 
-// Whether each of a batch's records is what its rows and its sessions say, and so are these.
+// Returns `true` if all records of the batch and all their sessions obey the audit rules. `groups`
+// has one list of rows for each record.
 fn are_audited(
     alloc: Global,
     tables: &Tables,
@@ -139,8 +137,8 @@ fn are_audited(
     Ok(true)
 }
 
-// Whether a batch with these rows is what they and its sessions say, and so are its records, its
-// groupings and these.
+// Returns `true` if a batch obeys the audit rules, together with its records, groupings and
+// sessions. `rows` are the rows of its file.
 fn has_file(
     alloc: Global,
     tables: &Tables,
@@ -178,7 +176,8 @@ fn has_file(
     are_audited(alloc, tables, batch, product, &groups, records, sessions)
 }
 
-// The same of a batch of this product.
+// Returns `true` if the file of `batch` has no fault under `product`, and `has_file` returns `true`
+// for its rows.
 fn is_audited_under(
     alloc: Global,
     tables: &Tables,
@@ -201,8 +200,12 @@ fn is_audited_under(
     }
 }
 
-/// Whether a batch is what its file and its sessions say, and so are its records, its groupings
-/// and these.
+/// Returns `true` if `batch` obeys the audit rules, together with its file, records, groupings and
+/// sessions.
+///
+/// # Errors
+///
+/// Returns `AllocError` if an allocation fails.
 pub(crate) fn is_audited_file(
     alloc: Global,
     tables: &Tables,

@@ -1,4 +1,4 @@
-//! Sessions by their records.
+//! Sorts sessions by their records.
 ghost use Rattle.std.specs.Prelude.{◌≡◌, ◌==◌, ◌∷◌, [], IfOk, filter};
 ghost use Rattle.std.specs.List.Sorted.{IsNonDecreasingBy};
 ghost use Rattle.table_rows.specs.Tables.{StoredSession as SessionValue};
@@ -10,7 +10,7 @@ use std::alloc::{AllocError, Global};
 use std::marker::Model;
 use table_rows::StoredSession;
 
-/// A session's row.
+/// A reference to the row of a session. Sorting moves the references and not the rows.
 #[derive(Drop)]
 pub(crate) struct SessionRef<'a> {
     pub(crate) row: &'a StoredSession,
@@ -25,7 +25,7 @@ impl<'a> Model for SessionRef<'a> {
 }
 
 impl<'a> SessionRef<'a> {
-    /// The place of its record.
+    /// Returns the place of the record in its batch.
     pub(crate) fn place(&self) -> u64
         ensures { result ≡ self.now.place }
     {
@@ -33,7 +33,7 @@ impl<'a> SessionRef<'a> {
         row.place
     }
 
-    /// How it stands.
+    /// Returns the state of the session.
     pub(crate) fn state(&self) -> SessionState
         ensures { result ≡ self.now.state }
     {
@@ -42,7 +42,7 @@ impl<'a> SessionRef<'a> {
     }
 }
 
-/// Sessions are sorted by their records.
+/// Sessions are sorted by batch and place.
 impl<'a> InOrder for SessionRef<'a> {
     ghost key = { λ s. s.batch ∷ s.place ∷ 0 ∷ [] };
 
@@ -52,7 +52,7 @@ impl<'a> InOrder for SessionRef<'a> {
     }
 }
 
-/// Sessions are found by their batch.
+/// A session is found by the id of its batch.
 impl<'a> Ranged for SessionRef<'a> {
     ghost number = { λ s. s.batch };
 
@@ -62,7 +62,7 @@ impl<'a> Ranged for SessionRef<'a> {
     }
 }
 
-// The rows, in their order.
+// Returns references to the rows of `sessions`, in their order.
 fn refs(alloc: Global, sessions: &[StoredSession]) -> Result<Vec<SessionRef<'_>>, AllocError>
     ensures { IfOk result (λ refs. refs.items ≡ sessions.now) }
 {
@@ -73,7 +73,11 @@ fn refs(alloc: Global, sessions: &[StoredSession]) -> Result<Vec<SessionRef<'_>>
     Ok(refs)
 }
 
-/// The sessions by their records.
+/// Returns the sessions in the order of their records.
+///
+/// # Errors
+///
+/// Returns `AllocError` if an allocation fails.
 pub(crate) fn by_record(
     alloc: Global,
     sessions: &[StoredSession],
@@ -85,7 +89,8 @@ pub(crate) fn by_record(
     Ok(rows)
 }
 
-/// Those of a batch's sessions that are of the record at this place.
+/// Returns the sessions of the record at `place`. `sessions` are the sessions of one batch, sorted
+/// by place.
 pub(crate) fn sessions_at<'a, 'b>(
     sessions: &'b [SessionRef<'a>],
     place: u64,

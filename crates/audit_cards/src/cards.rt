@@ -1,4 +1,4 @@
-//! Where the words of a session leave its card.
+//! Computes the state of a card from the status words of its session.
 ghost use Rattle.std.specs.Prelude.{◌≡◌, ◌∷◌, ◌++◌, [], ℕ, List, false, IfSome, None, Some};
 ghost use Rattle.std.specs.Prelude.{slice_get};
 ghost use Rattle.store_data.specs.Cursor.{IsSegmentAt, cursor_at};
@@ -12,16 +12,16 @@ use job_facts::SessionState;
 use store_data::{Class, Cursor, RecordPlan, SegmentView, class};
 use table_rows::{StoredSession, StoredWord};
 
-/// A card after words of its session.
+/// The state of a card after some status words of its session.
 #[derive(Clone, Copy)]
 pub(crate) struct Card {
-    /// The cursor after the words that go.
+    /// The cursor, at the command after the status words that let the session continue.
     pub(crate) cursor: Cursor,
-    /// Whether the last word stopped the session.
+    /// `true` if the last status word spoiled the session.
     pub(crate) stops: bool,
 }
 
-// The card before the first word.
+// Returns the state before the first status word.
 fn new_card() -> Card
     ensures { (plan : Plan) → Leaves plan [] result.cursor result.stops }
 {
@@ -31,7 +31,7 @@ fn new_card() -> Card
     }
 }
 
-// Whether the command at the cursor is the last of a tolerant segment.
+// Returns `true` if the command at `cursor` is the last of a tolerant segment.
 fn is_tolerant(cursor: &Cursor, segment: &SegmentView<'_>, max: u8) -> bool
     ensures { (plan : Plan) (k : ℕ) → IsPlan plan → cursor_at plan k ≡ Some cursor.now
         → IsSegmentAt plan cursor.now segment.now → plan.max ≡ max
@@ -41,7 +41,7 @@ fn is_tolerant(cursor: &Cursor, segment: &SegmentView<'_>, max: u8) -> bool
     segment.tol && at_end
 }
 
-// Whether a word to the command at the cursor goes.
+// Returns `true` if the status word `sw` for the command at `cursor` lets the session continue.
 fn goes(cursor: &Cursor, segment: &SegmentView<'_>, max: u8, sw: u16) -> bool
     ensures { (plan : Plan) (k : ℕ) → IsPlan plan → cursor_at plan k ≡ Some cursor.now
         → IsSegmentAt plan cursor.now segment.now → plan.max ≡ max
@@ -50,7 +50,8 @@ fn goes(cursor: &Cursor, segment: &SegmentView<'_>, max: u8, sw: u16) -> bool
     class(sw, is_tolerant(cursor, segment, max)) == Class::Go
 }
 
-// The card after one more word, where such a session may have it.
+// Returns the state after the status word `sw`. Returns `None` if no status word may follow,
+// because the last one spoiled the session or the plan has no command at the cursor.
 fn after(plan: &RecordPlan<'_>, max: u8, card: &Card, sw: u16) -> Option<Card>
     requires plan { IsPlan plan.now }
     requires max { max ≡ plan.now.max }
@@ -79,8 +80,8 @@ fn after(plan: &RecordPlan<'_>, max: u8, card: &Card, sw: u16) -> Option<Card>
     }
 }
 
-/// The card after these words; none where they are more than the plan's commands, or one before
-/// the last does not go.
+/// Returns the state after the status words `words`. Returns `None` if there are more status words
+/// than commands, or if a status word before the last spoils the session.
 pub(crate) fn card_after(plan: &RecordPlan<'_>, words: &[StoredWord]) -> Option<Card>
     ensures some { IfSome result
         (λ card. Leaves plan.now (status_words words.now) card.cursor card.stops) }
@@ -96,8 +97,8 @@ pub(crate) fn card_after(plan: &RecordPlan<'_>, words: &[StoredWord]) -> Option<
     Some(card)
 }
 
-// The state of a session that goes on with the command at the cursor, or is good where there is
-// none.
+// Returns the state of a session that can continue: `Running` if there is a command at `cursor`,
+// otherwise `Good`.
 fn state_at(plan: &RecordPlan<'_>, cursor: &Cursor) -> SessionState
     requires { IsPlan plan.now }
     ensures { (s : Session) → Leaves plan.now s.words cursor.now false → s.ended ≡ false
@@ -110,7 +111,7 @@ fn state_at(plan: &RecordPlan<'_>, cursor: &Cursor) -> SessionState
     }
 }
 
-/// The state of a session whose words leave its card so.
+/// Returns the state of `session` whose status words leave the card in the state `card`.
 pub(crate) fn state_of(plan: &RecordPlan<'_>, card: &Card, session: &StoredSession) -> SessionState
     requires { IsPlan plan.now }
     ensures { (s : Session) → Leaves plan.now s.words card.now.cursor card.now.stops

@@ -1,4 +1,4 @@
-//! The counters of batches.
+//! Checks the counters of a batch.
 ghost use Rattle.std.specs.Prelude.{◌≡◌, ◌↔◌, IsTrue, count_by};
 ghost use Rattle.std.specs.List.{list_all};
 ghost use Rattle.job_facts.specs.States.{is_finished, same_record_state};
@@ -10,7 +10,7 @@ use crate::records::count_of;
 use job_facts::{RecordState, SessionState};
 use table_rows::{StoredBatch, StoredRecord};
 
-// How many of these records stand so.
+// Returns the number of records with the state `state`.
 fn count_records(records: &[StoredRecord], state: RecordState) -> u64
     ensures { result ≡ count_by (λ (r : RecordValue). same_record_state state r.state) records.now }
 {
@@ -20,21 +20,21 @@ fn count_records(records: &[StoredRecord], state: RecordState) -> u64
         .count() as u64
 }
 
-// Whether a record wants nothing more of its batch.
+// Returns `true` if the record is good or withdrawn.
 fn is_finished(stored: &StoredRecord) -> bool
     ensures { result ≡ is_finished stored.now.state }
 {
     matches!(stored.state, RecordState::Good | RecordState::Withdrawn)
 }
 
-// Whether each of these records wants nothing more of its batch.
+// Returns `true` if all records are good or withdrawn.
 fn are_finished(records: &[StoredRecord]) -> bool
     ensures { result ≡ list_all (λ (r : RecordValue). is_finished r.state) records.now }
 {
     records.iter().all(|stored| is_finished(stored))
 }
 
-// Whether the batch's counters count these records.
+// Returns `true` if the counters of `batch` are right for its records `records`.
 fn counts_records(batch: &StoredBatch, records: &[StoredRecord]) -> bool
     ensures { IsTrue result ↔ CountsRecords records.now batch.now }
 {
@@ -45,7 +45,7 @@ fn counts_records(batch: &StoredBatch, records: &[StoredRecord]) -> bool
         && batch.good == count_records(records, RecordState::Good)
 }
 
-// Whether the batch's counters count these sessions.
+// Returns `true` if the counters of `batch` are right for its sessions `sessions`.
 fn counts_sessions(batch: &StoredBatch, sessions: &[SessionRef<'_>]) -> bool
     ensures { IsTrue result ↔ CountsSessions sessions.now batch.now }
 {
@@ -53,15 +53,15 @@ fn counts_sessions(batch: &StoredBatch, sessions: &[SessionRef<'_>]) -> bool
         && batch.spoiled == count_of(sessions, SessionState::Spoiled)
 }
 
-// Whether each record of the batch is good or withdrawn where it is closed.
+// Returns `true` if `batch` is open, or all its records are good or withdrawn.
 fn is_closed_well(batch: &StoredBatch, records: &[StoredRecord]) -> bool
     ensures { IsTrue result ↔ IsClosedWell records.now batch.now }
 {
     !batch.closed || are_finished(records)
 }
 
-/// Whether the batch's counters count these records and sessions, and each record of it is good or
-/// withdrawn where it is closed.
+/// Returns `true` if the counters of `batch` are right for its records and sessions, and a closed
+/// batch has only good and withdrawn records.
 pub(crate) fn counts_by(
     batch: &StoredBatch,
     records: &[StoredRecord],

@@ -1,4 +1,4 @@
-//! The records and the groupings of a batch's file.
+//! Compares the rows of records and groupings with the batch file.
 ghost use Rattle.std.specs.Prelude.{◌≡◌, ◌↔◌, IfOk, IsTrue, Some, map, slice_get};
 ghost use Rattle.table_rows.specs.After.{new_grouping};
 ghost use Rattle.audit_laws.specs.Audited.{key_of};
@@ -9,7 +9,11 @@ use std::alloc::{AllocError, Global};
 use store_data::{Name, Row};
 use table_rows::{StoredGrouping, StoredRecord};
 
-/// The names of the records of rows, in file order.
+/// Returns the names of the records of `rows`, in file order.
+///
+/// # Errors
+///
+/// Returns `AllocError` if an allocation fails.
 pub(crate) fn names_of(alloc: Global, rows: &[Row]) -> Result<Vec<Name>, AllocError>
     ensures { IfOk result (λ names. names.items ≡ names_in rows.now) }
 {
@@ -23,14 +27,16 @@ pub(crate) fn names_of(alloc: Global, rows: &[Row]) -> Result<Vec<Name>, AllocEr
     Ok(names)
 }
 
-// Whether a row is of the record of this name at this place.
+// Returns `true` if `stored` is the row of the record `name` at `place` of the batch `id`. The
+// states of records are checked elsewhere.
 fn is_record(stored: &StoredRecord, id: u64, place: usize, name: &Name) -> bool
     ensures { IsTrue result ↔ (key_of stored.now ≡ (id, (place, name.now))) }
 {
     stored.batch == id && stored.place == place as u64 && stored.name.as_slice() == name.bytes()
 }
 
-/// Whether these are the rows of the records of these names.
+/// Returns `true` if `records` are the rows of the records `names` of the batch `id`, in this
+/// order.
 pub(crate) fn are_records(records: &[StoredRecord], id: u64, names: &[Name]) -> bool
     ensures { IsTrue result ↔ (map key_of records.now ≡ keys_of id names.now) }
 {
@@ -45,7 +51,7 @@ pub(crate) fn are_records(records: &[StoredRecord], id: u64, names: &[Name]) -> 
     true
 }
 
-// Whether the record of this name is at this place.
+// Returns `true` if `name` is at index `place` of `names`.
 fn is_at(names: &[Name], place: u64, name: &Name) -> bool
     ensures { IsTrue result ↔ (slice_get names.now place ≡ Some name.now) }
 {
@@ -55,14 +61,14 @@ fn is_at(names: &[Name], place: u64, name: &Name) -> bool
     }
 }
 
-// Whether a row has this batch and this row number.
+// Returns `true` if `grouping` belongs to batch `id` and has the row number `line`.
 fn is_numbered(grouping: &StoredGrouping, id: u64, line: u64) -> bool
     ensures { IsTrue result ↔ ((grouping.now.batch ≡ id) × (grouping.now.line ≡ line)) }
 {
     grouping.batch == id && grouping.line == line
 }
 
-// Whether a row has the rank and the marks of this row of a file.
+// Returns `true` if `grouping` has the rank, the encryption and the `tol` field of `row`.
 fn has_marks(grouping: &StoredGrouping, row: &Row) -> bool
     ensures { IsTrue result ↔ ((grouping.now.rank ≡ row.now.rank)
         × (grouping.now.enc ≡ row.now.enc) × (grouping.now.tol ≡ row.now.tol)) }
@@ -70,7 +76,7 @@ fn has_marks(grouping: &StoredGrouping, row: &Row) -> bool
     grouping.rank == row.rank && grouping.enc == row.enc && grouping.tol == row.tol
 }
 
-// Whether a row has the identifier and the grouping of this row of a file.
+// Returns `true` if `grouping` has the AID and the data grouping of `row`.
 fn has_bytes(grouping: &StoredGrouping, row: &Row) -> bool
     ensures { IsTrue result
         ↔ ((grouping.now.aid ≡ row.now.aid) × (grouping.now.coded ≡ row.now.coded)) }
@@ -78,14 +84,15 @@ fn has_bytes(grouping: &StoredGrouping, row: &Row) -> bool
     grouping.aid.as_slice() == row.aid.bytes() && grouping.coded.as_slice() == row.coded.as_slice()
 }
 
-// Whether a row is at the place of the record of this row of a file.
+// Returns `true` if `grouping` has the place of the record of `row`.
 fn is_placed(grouping: &StoredGrouping, row: &Row, names: &[Name]) -> bool
     ensures { IsTrue result ↔ (slice_get names.now grouping.now.place ≡ Some row.now.rec) }
 {
     is_at(names, grouping.place, &row.rec)
 }
 
-// Whether a row is of this row of a file, with this row number.
+// Returns `true` if `grouping` is the row of `grouping2` for `row`, which has the row number `line`
+// in the file of the batch `id`.
 fn is_grouping(grouping: &StoredGrouping, id: u64, line: u64, row: &Row, names: &[Name]) -> bool
     requires { IsNamed row.now.rec names.now }
     ensures { IsTrue result ↔ (grouping.now ≡ new_grouping id names.now (line, row.now)) }
@@ -102,7 +109,8 @@ fn is_grouping(grouping: &StoredGrouping, id: u64, line: u64, row: &Row, names: 
     has_bytes(grouping, row)
 }
 
-/// Whether these are the rows of the rows of a file, the records of which have these names.
+/// Returns `true` if `groupings` are the rows of `grouping2` for the rows of the file of the batch
+/// `id`. `names` are the names of its records.
 pub(crate) fn are_groupings(
     groupings: &[StoredGrouping],
     id: u64,

@@ -1,5 +1,4 @@
-//! The audit of batches with their files, records and sessions, of words and of remakes, over rows
-//! in order.
+//! Audits sorted rows: batches with their files, records and sessions, status words, and remakes.
 #![tactic(auto)]
 
 mod batches;

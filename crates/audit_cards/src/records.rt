@@ -1,4 +1,4 @@
-//! Records, and how their sessions leave them.
+//! Checks a record and its sessions.
 ghost use Rattle.std.specs.Prelude.{◌≡◌, ◌↔◌, IfOk, IsTrue, All, count_by, nat_lt};
 ghost use Rattle.table_rows.specs.Tables.{StoredSession as SessionValue};
 ghost use Rattle.job_facts.specs.Sound.{has_card};
@@ -16,7 +16,7 @@ use std::alloc::{AllocError, Global};
 use store_data::{Product, RecordPlan, Row, plan_of_sound};
 use table_rows::{StoredBatch, StoredRecord, Tables};
 
-/// How many of these sessions stand so.
+/// Returns the number of sessions with the state `state`.
 pub(crate) fn count_of(sessions: &[SessionRef<'_>], state: SessionState) -> u64
     ensures { result
         ≡ count_by (λ (s : SessionValue). same_session_state state s.state) sessions.now }
@@ -27,14 +27,14 @@ pub(crate) fn count_of(sessions: &[SessionRef<'_>], state: SessionState) -> u64
         .count() as u64
 }
 
-// Whether such a session is good or runs.
+// Returns `true` if the state is good or running.
 fn has_card(state: SessionState) -> bool
     ensures { result ≡ has_card state }
 {
     matches!(state, SessionState::Good | SessionState::Running)
 }
 
-// How many of these sessions are good or run.
+// Returns the number of sessions that are good or running.
 fn cards_of(sessions: &[SessionRef<'_>]) -> u64
     ensures { result ≡ count_by (λ (s : SessionValue). has_card s.state) sessions.now }
 {
@@ -44,8 +44,8 @@ fn cards_of(sessions: &[SessionRef<'_>]) -> u64
         .count() as u64
 }
 
-// Whether a record may have so many sessions that are good or run, so many spoiled ones, and so
-// many remakes.
+// Returns `true` if a record can have `cards` sessions that are good or running, `spoiled` spoiled
+// sessions, and `remakes` remakes.
 fn is_sound_count(cards: u64, spoiled: u64, withdrawn: bool, remakes: u64) -> bool
     ensures { IsTrue result ↔ IsSoundCount cards spoiled withdrawn remakes }
 {
@@ -58,15 +58,13 @@ fn is_sound_count(cards: u64, spoiled: u64, withdrawn: bool, remakes: u64) -> bo
     spoiled - remakes <= 1
 }
 
-// Whether a record is withdrawn.
 fn is_withdrawn(stored: &StoredRecord) -> bool
     ensures { result ≡ is_withdrawn stored.now }
 {
     matches!(stored.state, RecordState::Withdrawn)
 }
 
-// The state of a record, by how many of its sessions are good, how many run, and how many are
-// spoiled.
+// Returns the state of a record with these numbers of good, running and spoiled sessions.
 fn state_by(stored: &StoredRecord, good: u64, running: u64, spoiled: u64) -> RecordState
     ensures { result ≡ state_by_count (nat_lt 0 good) (nat_lt 0 running) (is_withdrawn stored.now)
         (nat_lt stored.now.remakes spoiled) }
@@ -84,14 +82,14 @@ fn state_by(stored: &StoredRecord, good: u64, running: u64, spoiled: u64) -> Rec
     }
 }
 
-// Whether a record is said to have so many spoiled sessions, and to stand so.
+// Returns `true` if the row has this number of spoiled sessions and this state.
 fn is_so(stored: &StoredRecord, spoiled: u64, state: RecordState) -> bool
     ensures { IsTrue result ↔ ((stored.now.spoiled ≡ spoiled) × (stored.now.state ≡ state)) }
 {
     stored.spoiled == spoiled && stored.state == state
 }
 
-// Whether a record is remade as often as it may be.
+// Returns `true` if the number of remakes is possible with these numbers of sessions.
 fn is_remade(stored: &StoredRecord, cards: u64, spoiled: u64) -> bool
     ensures { IsTrue result
         ↔ IsSoundCount cards spoiled (is_withdrawn stored.now) stored.now.remakes }
@@ -99,7 +97,7 @@ fn is_remade(stored: &StoredRecord, cards: u64, spoiled: u64) -> bool
     is_sound_count(cards, spoiled, is_withdrawn(stored), stored.remakes)
 }
 
-// Whether a record stands as these sessions of it say.
+// Returns `true` if the row `stored` is right for a record with the sessions `own`.
 fn stands_by(stored: &StoredRecord, own: &[SessionRef<'_>]) -> bool
     ensures { IsTrue result ↔ StandsBy (states_in own.now) stored.now }
 {
@@ -112,7 +110,7 @@ fn stands_by(stored: &StoredRecord, own: &[SessionRef<'_>]) -> bool
     is_remade(stored, cards_of(own), spoiled)
 }
 
-// Whether a session of a record of this batch that has this plan is what its words say.
+// Returns `true` if `session` obeys the audit rules. `plan` is the plan of its record.
 fn is_audited(
     tables: &Tables,
     batch: &StoredBatch,
@@ -126,7 +124,8 @@ fn is_audited(
     is_audited_session(tables, batch, plan, session.row)
 }
 
-// Whether each session of a record of this batch that has this plan is what its words say.
+// Returns `true` if all sessions `own` of a record obey the audit rules. `plan` is the plan of the
+// record.
 fn are_audited(
     tables: &Tables,
     batch: &StoredBatch,
@@ -147,7 +146,12 @@ fn are_audited(
     true
 }
 
-/// Whether a record that has these rows and these sessions is what they say, and so are they.
+/// Returns `true` if the record `stored` and its sessions `own` obey the audit rules. `rows` are
+/// its rows in the batch file. The plan is made only if the record has sessions.
+///
+/// # Errors
+///
+/// Returns `AllocError` if an allocation fails.
 pub(crate) fn is_audited_record(
     alloc: Global,
     tables: &Tables,

@@ -1,4 +1,4 @@
-//! Remakes: the turns of each record.
+//! Checks the remakes of each record.
 ghost use Rattle.std.specs.Prelude.{◌≡◌, ◌↔◌, ◌<◌, ◌^◌, ◌+◌, ◌++◌, List, IfSome, IsTrue, None};
 ghost use Rattle.std.specs.Prelude.{flat_map};
 ghost use Rattle.table_rows.specs.Tables.{StoredRemake as RemakeValue};
@@ -7,7 +7,8 @@ ghost use Rattle.audit_cards.specs.Sessions.{turn_of};
 
 use table_rows::{StoredRecord, StoredRemake};
 
-// Whether this is a turn of a record, behind so many.
+// Returns `true` if `remake` is the row of the remake of the record `stored` that follows `before`
+// others.
 fn is_turn(remake: &StoredRemake, stored: &StoredRecord, before: usize) -> bool
     requires { before < 2 ^ 63 }
     ensures { IsTrue result ↔ (remake.now ≡ turn_of stored.now (1 + before)) }
@@ -15,7 +16,7 @@ fn is_turn(remake: &StoredRemake, stored: &StoredRecord, before: usize) -> bool
     remake.batch == stored.batch && remake.place == stored.place && remake.turn == before as u64 + 1
 }
 
-// Whether these are the turns of a record.
+// Returns `true` if `remakes` are exactly the rows of `remake` for the record `stored`.
 fn are_turns(remakes: &[StoredRemake], stored: &StoredRecord) -> bool
     ensures { IsTrue result ↔ (remakes.now ≡ turns_of stored.now) }
 {
@@ -30,7 +31,8 @@ fn are_turns(remakes: &[StoredRemake], stored: &StoredRecord) -> bool
     true
 }
 
-// The rows behind the turns of a record, if they begin with those.
+// Returns the rows after the remakes of the record `stored`, or `None` if `remakes` doesn't start
+// with them.
 fn behind_turns<'a>(
     remakes: &'a [StoredRemake],
     stored: &StoredRecord,
@@ -50,7 +52,7 @@ fn behind_turns<'a>(
     }
 }
 
-/// Whether the remakes are the turns of the records.
+/// Returns `true` if `remakes` are exactly the rows of `remake` for the records, in this order.
 pub(crate) fn are_remakes(remakes: &[StoredRemake], records: &[StoredRecord]) -> bool
     ensures { IsTrue result ↔ (remakes.now ≡ flat_map turns_of records.now) }
 {

@@ -1,4 +1,4 @@
-//! Sessions, and what their words say of them.
+//! Checks a session and its status words.
 ghost use Rattle.std.specs.Prelude.{◌≡◌, ◌↔◌, IsTrue};
 ghost use Rattle.job_facts.specs.Sound.{IsName};
 ghost use Rattle.audit_laws.specs.Audited.{IsAuditedSession, words_of};
@@ -12,7 +12,7 @@ use job_facts::SessionState;
 use store_data::{Cursor, RecordPlan};
 use table_rows::{StoredBatch, StoredLot, StoredSession, StoredWord, Tables};
 
-// Whether the session's card is said to stand at this cursor.
+// Returns `true` if the row of the session has the cursor `cursor`.
 fn is_at(session: &StoredSession, cursor: &Cursor) -> bool
     ensures { IsTrue result ↔ (session.now.cursor ≡ cursor.now) }
 {
@@ -22,7 +22,7 @@ fn is_at(session: &StoredSession, cursor: &Cursor) -> bool
         && session.block == u64::from(cursor.block)
 }
 
-/// The session's words, in their order.
+/// Returns the rows of the status words of `session`, in their order.
 pub(crate) fn words_of<'a>(tables: &'a Tables, session: &StoredSession) -> &'a [StoredWord]
     requires { AreReady tables.now }
     ensures { status_words result.now ≡ words_of tables.now.words session.now.id }
@@ -30,28 +30,29 @@ pub(crate) fn words_of<'a>(tables: &'a Tables, session: &StoredSession) -> &'a [
     range_of(&tables.words, session.id)
 }
 
-// Whether the session is said to be of a machine with a name, and to have so many words.
+// Returns `true` if the machine of the session has a valid name, and the row has this number of
+// status words.
 fn is_sized(session: &StoredSession, words: usize) -> bool
     ensures { IsTrue result ↔ (IsName session.now.machine × (session.now.words ≡ words)) }
 {
     is_name(&session.machine) && session.words == words as u64
 }
 
-// Whether the session is said to stand so.
+// Returns `true` if the row of the session has the state `state`.
 fn stands(session: &StoredSession, state: SessionState) -> bool
     ensures { IsTrue result ↔ (session.now.state ≡ state) }
 {
     session.state == state
 }
 
-// Whether the lot is for the product of the batch.
+// Returns `true` if `lot` is for the product of `batch`.
 fn has_product(lot: &StoredLot, batch: &StoredBatch) -> bool
     ensures { IsTrue result ↔ (lot.now.lot.product ≡ batch.now.product) }
 {
     lot.product.as_slice() == batch.product.as_slice()
 }
 
-// Whether the session's serial lies in a lot for the product of its batch.
+// Returns `true` if the blank of the session is in a lot of the product of `batch`.
 fn is_for(tables: &Tables, session: &StoredSession, batch: &StoredBatch) -> bool
     requires { AreReady tables.now }
     ensures { IsTrue result ↔ IsFor tables.now session.now.serial batch.now.product }
@@ -62,7 +63,8 @@ fn is_for(tables: &Tables, session: &StoredSession, batch: &StoredBatch) -> bool
     }
 }
 
-/// Whether a session of a record of this batch that has this plan is what its words say.
+/// Returns `true` if `session` obeys the audit rules. `plan` is the plan of its record, in the
+/// batch `batch`.
 pub(crate) fn is_audited_session(
     tables: &Tables,
     batch: &StoredBatch,

@@ -1,4 +1,4 @@
-//! The tables' batches with all that belongs to them, and the tables' remakes.
+//! Checks all batches of the tables with everything that belongs to them, and all remakes.
 ghost use Rattle.std.specs.Prelude.{◌≡◌, ◌↔◌, IfOk, IsTrue, All, flat_map};
 ghost use Rattle.audit_laws.specs.Audited.{turns_of};
 ghost use Rattle.audit_order.specs.Order.{AreReady};
@@ -10,14 +10,14 @@ use crate::remakes::are_remakes;
 use std::alloc::{AllocError, Global};
 use table_rows::{StoredBatch, Tables};
 
-// The sessions by their records.
+// Returns the sessions of `tables` in the order of their records.
 fn sessions_by_record(alloc: Global, tables: &Tables) -> Result<Vec<SessionRef<'_>>, AllocError>
     ensures { IfOk result (λ rows. AreByRecord tables.now.sessions rows.items) }
 {
     by_record(alloc, &tables.sessions)
 }
 
-// Whether each of the batches is what its file and its sessions say.
+// Returns `true` if all `batches` obey the audit rules.
 fn are_files(
     alloc: Global,
     tables: &Tables,
@@ -37,7 +37,7 @@ fn are_files(
     Ok(true)
 }
 
-// The same of all batches.
+// Returns `true` if all batches of `tables` obey the audit rules.
 fn are_all_files(
     alloc: Global,
     tables: &Tables,
@@ -51,8 +51,12 @@ fn are_all_files(
     are_files(alloc, tables, by_record, &tables.batches)
 }
 
-/// Whether each batch is what its file and its sessions say, and so are its records, its groupings
-/// and these.
+/// Returns `true` if every batch obeys the audit rules, together with its file, records, groupings
+/// and sessions.
+///
+/// # Errors
+///
+/// Returns `AllocError` if an allocation fails.
 pub fn has_files(alloc: Global, tables: &Tables) -> Result<bool, AllocError>
     requires { AreReady tables.now }
     ensures { IfOk result
@@ -62,7 +66,8 @@ pub fn has_files(alloc: Global, tables: &Tables) -> Result<bool, AllocError>
     are_all_files(alloc, tables, &by_record)
 }
 
-/// Whether the remakes are the turns of the records.
+/// Returns `true` if the rows of `remake` are exactly the remakes of the records, in the order of
+/// the records.
 pub fn has_remakes(tables: &Tables) -> bool
     ensures { IsTrue result ↔ (tables.now.remakes ≡ flat_map turns_of tables.now.records) }
 {

@@ -1,4 +1,4 @@
-//! Words, with their places in their sessions.
+//! Checks the status words and their places in their sessions.
 ghost use Rattle.std.specs.Prelude.{◌≡◌, ◌↔◌, ◌++◌, List, IfSome, IsTrue, None, flat_map};
 ghost use Rattle.table_rows.specs.Tables.{StoredWord as WordValue};
 ghost use Rattle.audit_laws.specs.Audited.{placed_words};
@@ -8,14 +8,14 @@ ghost use Rattle.audit_order.specs.Order.{AreReady};
 use crate::sessions::words_of;
 use table_rows::{StoredSession, StoredWord, Tables};
 
-// Whether this is a word of this session at this place, and the same as another.
+// Returns `true` if `word` is at `place` of `session`, and has the status word of `own`.
 fn is_word(word: &StoredWord, session: &StoredSession, place: usize, own: &StoredWord) -> bool
     ensures { IsTrue result ↔ (word.now ≡ word_at session.now.id place own.now) }
 {
     word.session == session.id && word.place == place as u64 && word.sw == own.sw
 }
 
-// Whether these are the words of this session, with the places from 0 on.
+// Returns `true` if `words` are the status words `own` of the session, with the places 0, 1, ..
 fn are_placed(words: &[StoredWord], session: &StoredSession, own: &[StoredWord]) -> bool
     ensures { IsTrue result ↔ (words.now ≡ words_placed session.now.id own.now) }
 {
@@ -30,7 +30,8 @@ fn are_placed(words: &[StoredWord], session: &StoredSession, own: &[StoredWord])
     true
 }
 
-// The rows behind the words of a session, if they begin with those.
+// Returns the rows after the status words of `session`, or `None` if `words` doesn't start with
+// them.
 fn behind_words<'a>(
     tables: &Tables,
     words: &'a [StoredWord],
@@ -54,7 +55,8 @@ fn behind_words<'a>(
     }
 }
 
-// Whether these words are those of these sessions, with the places from 0 on.
+// Returns `true` if `words` are exactly the status words of `sessions`, with the places 0, 1, .. in
+// each session.
 fn are_words_of(tables: &Tables, words: &[StoredWord], sessions: &[StoredSession]) -> bool
     requires { AreReady tables.now }
     ensures { IsTrue result ↔ (words.now ≡ flat_map (placed_words tables.now) sessions.now) }
@@ -69,7 +71,8 @@ fn are_words_of(tables: &Tables, words: &[StoredWord], sessions: &[StoredSession
     rest.is_empty()
 }
 
-/// Whether the words are those of the sessions, with the places from 0 on.
+/// Returns `true` if the rows of `word` are exactly the status words of the sessions, with the
+/// places 0, 1, .. in each session.
 pub fn has_words(tables: &Tables) -> bool
     requires { AreReady tables.now }
     ensures { IsTrue result

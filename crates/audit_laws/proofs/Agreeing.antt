@@ -1,4 +1,4 @@
--- What audited rows give of the contents that they decide, each row of its own.
+-- The contents that audited rows determine agree with each row.
 use Rattle.std.specs.Prelude.{◌≡◌, ℕ, map, count_by, All}
 use Rattle.job_facts.specs.Accounts.{record_states, session_states}
 use Rattle.job_facts.specs.Facts.{Batch, Session}
@@ -14,7 +14,7 @@ pub record BatchAgrees (t : Tables) (b : StoredBatch) : Type 0 where
   pub its_records : record_states (facts_of t) b.name ≡ record_states_of t b
   pub its_sessions : session_states (facts_of t) b.name ≡ session_states_of t b
 
--- its batch's name is that of the batch with its id
+-- The record with the name of `r`, in the batch with the id `r.batch`, has the values of row `r`.
 pub record RecordAgrees (t : Tables) (r : StoredRecord) : Type 0 where
   pub states : states_of (facts_of t) (batch_name t r.batch) r.name ≡ states_at t r
   pub withdrawn : is_gone (facts_of t) (batch_name t r.batch) r.name ≡ is_withdrawn r

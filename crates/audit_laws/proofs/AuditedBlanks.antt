@@ -1,4 +1,4 @@
--- The lots and blanks of sound facts by their rows.
+-- The rows of lots and blanks in the image of sound facts pass the audit.
 use Rattle.std.proofs.Common.{◌≡◌, ◌≢◌, ℕ, true, false, not, List, ◌++◌, get_or, map, count_by, filter, All, refl, sym, ap, ◌∙◌, subst, append-nil, IsPermutation}
 use Rattle.std.specs.Prelude.{AllPairs, Bool, IsSome}
 use Rattle.std.proofs.lemmas.List.Elements.{All-append, All-map, filter-append}
@@ -31,7 +31,7 @@ module _ (c : Contents) (sound : IsSound c.facts) where
   abbrev opened : Session → StoredBlank
   opened s = stored_blank f false s.blank
 
-  -- ---- of openings, and taken out of use
+  -- ---- blanks of sessions, and discarded blanks
 
   rows_out : discarded_rows (stored_blanks f) ≡ map (stored_blank f true) f.discarded
   unfolding stored_blanks

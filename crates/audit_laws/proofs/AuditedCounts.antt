@@ -1,4 +1,4 @@
--- The records and batches of sound facts by their rows: how they stand, and their counters.
+-- The rows of records and batches in the image of sound facts have the right states and counters.
 use Rattle.std.proofs.Common.{◌≡◌, ℕ, true, List, length, All, refl, sym, ap, ◌∙◌, subst}
 use Rattle.std.specs.Prelude.{IsTrue, bytes_eq, count_by}
 use Rattle.std.specs.List.{list_any}
@@ -21,7 +21,7 @@ use Rattle.row_laws.proofs.RecordRows.{name_at}
 use Rattle.audit_laws.specs.Audited.{IsAuditedBatch, IsAuditedRecord, is_withdrawn, record_states_of, states_at}
 use Rattle.audit_laws.proofs.AuditedPlaces.{IsOwn, IsOwnRecord, batch_record_states, batch_session_states, own_batches, own_records, record_session_states}
 
--- ---- what holds of each name holds of one that is there
+-- ---- a property of all names of a list, for a name that the list contains
 
 named_holds : (P : List ℕ → Type 0) (names : List (List ℕ)) (n : List ℕ) → All P names → list_any (bytes_eq n) names ≡ true → P n
 named_holds P names n each there =

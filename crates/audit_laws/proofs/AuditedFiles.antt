@@ -1,5 +1,5 @@
--- The rows of an image by its batches and sessions: ids count up, and each file and each session
--- gives just its own rows.
+-- The rows of an image, by batch and by session: ids are consecutive, and each batch file and each
+-- session has exactly its own rows.
 use Rattle.std.proofs.Common.{◌≡◌, ℕ, ◌+◌, ◌==◌, Bool, true, false, List, [], ◌∷◌, length, map, Some, refl, sym, ap, ◌∙◌, subst}
 use Rattle.std.specs.Prelude.{filter, slice_get}
 use Rattle.std.specs.List.{enumerate_from, flat_map, range_with_len}
@@ -20,7 +20,7 @@ use Rattle.row_laws.proofs.RecordRows.{equal_self}
 use Rattle.audit_laws.specs.Audited.{file_groupings, file_keys, key_of, placed_words, turns_of, words_of}
 use Rattle.audit_laws.proofs.AuditedPlaces.{All-placed}
 
--- the numbers of one row each count up
+-- If each element gives one row with its number, the numbers of the rows are consecutive.
 numbers_are : {X Y : Type 0} (number : Y → ℕ) (g : ℕ × X → Y) → ((e : ℕ × X) → number (g e) ≡ e.0) → (n : ℕ) (xs : List X)
     → map number (map g (enumerate_from n xs)) ≡ range_with_len n (length (map g (enumerate_from n xs)))
 numbers_are number g is n [] = refl

@@ -1,4 +1,4 @@
--- The rows of sound contents pass the audit.
+-- The image of sound contents passes the audit.
 use Rattle.std.proofs.Common.{◌≡◌, ◌∷◌, [], subst, sym}
 use Rattle.std.proofs.lemmas.List.Sorted.{IsPermutation-sym}
 use Rattle.job_facts.specs.Contents.{AreSound, Contents}

@@ -1,5 +1,4 @@
--- What the audit tests holds of the same rows in another order of those tables whose order matters
--- nothing.
+-- Rows that pass the audit also pass it in another order, in the tables whose order doesn't matter.
 use Rattle.std.proofs.Common.{◌≡◌, ◌≢◌, ◌==◌, ℕ, Bool, false, not, List, get_or, map, inl, inr, sym, ap, ◌∙◌, subst, arith, IsPermutation}
 use Rattle.std.specs.Prelude.{AllPairs, IsSome, IsTrue, bytes_eq, count_by, nat_lt, option_map, unwrap_or}
 use Rattle.std.specs.List.{enumerate_from, flat_map}
@@ -25,7 +24,7 @@ use Rattle.row_laws.proofs.RecordRows.{name_alone}
 use Rattle.audit_laws.specs.Audited.{IsAudited, IsAuditedBatch, IsAuditedBlank, IsAuditedLot, IsAuditedRecord, IsAuditedSession, file_groupings, file_keys, file_records, file_rows, opened_rows}
 use Rattle.audit_laws.proofs.InOrder.{pairs_moved}
 
--- ---- what has a name
+-- ---- products, lots and batches
 
 module _ (products others : List Product) (moved : IsPermutation products others) (are : AreProducts products) where
   pub products_moved : AreProducts others

@@ -1,5 +1,5 @@
--- Where the batches, records and sessions of sound facts stand in their image, and what is kept of
--- its rows by ids and places.
+-- The positions of the batches, records and sessions of sound facts in their image, and the rows of
+-- the image that are selected by ids and places.
 use Rattle.std.proofs.Common.{◌≡◌, ℕ, ◌+◌, ◌<◌, ◌==◌, ◌&&◌, Bool, true, List, [], get_or, length, map, All, Some, inl, inr, sym, ap, subst, ◌∙◌, arith}
 use Rattle.std.specs.Prelude.{bytes_eq, filter, slice_get}
 use Rattle.std.specs.List.{enumerate_from, list_any}
@@ -31,7 +31,7 @@ use Rattle.row_laws.proofs.LineRows.{id_alike}
 use Rattle.row_laws.proofs.RecordRows.{names_are}
 use Rattle.audit_laws.specs.Audited.{is_session_at, is_session_of}
 
--- what holds of each in its place
+-- If `P` holds for each element with its number, it holds for all elements of the numbered list.
 pub All-placed : {X : Type 0} (P : ℕ × X → Type 0) (n : ℕ) (xs : List X)
     → ((k : ℕ) (x : X) → slice_get xs k ≡ Some x → P (n + k, x)) → All P (enumerate_from n xs)
 All-placed {X} P n xs each =
@@ -40,11 +40,11 @@ All-placed {X} P n xs each =
 
 -- ---- batches and their records
 
--- the batch is that of its name, and so is its id
+-- A look-up of the name of batch `e` finds this batch, with this id.
 abbrev pub IsOwn : Facts → ℕ × Batch → Type 0
 IsOwn f e = (batch_named f.batches e.1.name ≡ Some e.1) × (e.0 ≡ batch_id f.batches e.1.name)
 
--- a record of such a batch, at the place of its name
+-- Batch `e` contains a record with the name of `r`, and `r` has the place of this name.
 pub record IsOwnRecord (f : Facts) (e : ℕ × Batch) (r : ℕ × List ℕ) : Type 0 where
   pub batch : IsOwn f e
   pub there : IsRecord f e.1.name r.1

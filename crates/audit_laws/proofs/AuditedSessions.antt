@@ -1,5 +1,5 @@
--- The sessions of sound facts by their rows: each has its record's plan, by which it stands, and
--- its lot.
+-- The rows of sessions in the image of sound facts pass the audit: the plan of its record
+-- determines the state and the cursor of each session, and a lot contains its blank.
 use Rattle.std.proofs.Common.{◌≡◌, ◌≤◌, ℕ, suc, ◌+◌, ◌-◌, List, length, count_by, All, Option, Some, inl, inr, refl, sym, ap, ◌∙◌, subst, arith}
 use Rattle.std.specs.Prelude.{bytes_eq, option_and_then, option_map, slice_get, unwrap_or}
 use Rattle.std.proofs.lemmas.Bool.{cases_Bool, cond-false, cond-true}

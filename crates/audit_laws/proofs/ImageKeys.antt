@@ -1,4 +1,4 @@
--- The rows of an image stand in the order of their keys, and these differ.
+-- The rows of an image are in the order of their keys, and no two keys are equal.
 use Rattle.std.proofs.Common.{◌≡◌, ℕ, zero, suc, ◌+◌, ◌<◌, List, [], ◌∷◌, get_or, map, All, inl, inr, refl, sym, ◌∙◌, arith}
 use Rattle.std.specs.Prelude.{AllPairs}
 use Rattle.std.specs.List.{enumerate_from, flat_map, range_with_len}
@@ -11,10 +11,10 @@ use Rattle.image_laws.specs.Image.{groupings_in, placed_records, records_in, rem
 use Rattle.row_laws.proofs.Finding.{AllPairs-joined, AllPairs-map, numbers_rise}
 use Rattle.audit_laws.proofs.InOrder.{IsBelow}
 
--- ---- rows of what is numbered
+-- ---- rows of the elements of a numbered list
 
--- rows whose first number is that of what they are of, and that stand in the order of the others
--- there
+-- The first number in the key of a row is the number of its element. The rows of one element are in
+-- the order of the other numbers.
 module _ {X Y : Type 0} (first : Y → ℕ) (others : Y → List ℕ) (g : ℕ × X → List Y) (own : (e : ℕ × X) → All (λ y. first y ≡ e.0) (g e))
     (inside : (e : ℕ × X) → AllPairs (λ x y. IsBelow (others x) (others y)) (g e)) where
   abbrev Below : Y → Y → Type 0
@@ -26,7 +26,7 @@ module _ {X Y : Type 0} (first : Y → ℕ) (others : Y → List ℕ) (g : ℕ �
       (λ d e less i x here j y there. let from = own d i x here in let to = own e j y there in inl (omega arith))
       (enumerate_from n xs) (numbers_rise n xs)
 
--- one row of each number
+-- One row for each element, whose key is only the number of the element.
 pub mapped_below : {X Y : Type 0} (number : Y → ℕ) (g : ℕ × X → Y) → ((e : ℕ × X) → number (g e) ≡ e.0) → (n : ℕ) (xs : List X)
     → AllPairs (λ x y. IsBelow (number x ∷ []) (number y ∷ [])) (map g (enumerate_from n xs))
 mapped_below number g is n xs =

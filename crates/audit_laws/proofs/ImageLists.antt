@@ -1,4 +1,4 @@
--- Lists that are made again from what their elements give, and lists that are joined twice.
+-- Lists that are rebuilt from a value of each element, and nested `flat_map`s.
 use Rattle.std.proofs.Common.{◌≡◌, List, [], ◌∷◌, ◌++◌, All, map, refl, sym, ap, ◌∙◌}
 use Rattle.std.specs.List.{flat_map}
 use Rattle.std.proofs.lemmas.List.Concat.{flat_map-append}

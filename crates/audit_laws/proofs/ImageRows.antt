@@ -1,4 +1,4 @@
--- The image of the contents that audited rows decide has these rows.
+-- The image of the contents that audited rows determine has these rows.
 use Rattle.std.proofs.Common.{◌≡◌, ℕ, Bool, true, false, not, cond, List, [], ◌++◌, get_or, map, filter, refl, sym, ap, ◌∙◌, subst, IsPermutation}
 use Rattle.std.specs.List.{enumerate_from, flat_map, range_with_len}
 use Rattle.std.proofs.lemmas.List.Elements.{All-weaker, All-filter, filter_passes}
@@ -20,14 +20,14 @@ use Rattle.audit_laws.proofs.Agreeing.{BatchAgrees, RecordAgrees, RowsAgree, Ses
 use Rattle.audit_laws.proofs.ImageLists.{flat_joined, made_again}
 use Rattle.audit_laws.proofs.SoundSessions.{sessions_are}
 
--- a batch with its id, and a session with its own
+-- batch `b` with its id; `numbered_session` does this for a session
 abbrev numbered_batch : StoredBatch → ℕ × Batch
 numbered_batch b = (b.id, batch_of_row b)
 
 abbrev numbered_session : Tables → StoredSession → ℕ × Session
 numbered_session t s = (s.id, named_session t s)
 
--- a batch of which no more is known than its name
+-- a batch with only a name
 abbrev under_name : List ℕ → Batch
 under_name n = record { name = n; product = []; raw = [] }
 
@@ -80,7 +80,7 @@ module _ (t : Tables) (audited : IsAudited t) (rows_agree : RowsAgree t) where
       ∙ made_again (stored_batch f) numbered_batch t.batches
       (λ k d within. batch_again (get_or t.batches k d) (rows_agree.each_batch k d within) (audited.each_batch k d within))
 
-  -- ---- what is made of each record of the files, in file order
+  -- ---- the rows of each batch file and of each of its records, in file order
 
   of_files : {Y : Type 0} (rows : ℕ × Batch → List Y) (of_file : StoredBatch → List Y) → ((b : StoredBatch) → BatchAgrees t b → rows (numbered_batch b) ≡ of_file b)
       → flat_map rows (batches_by_id f) ≡ flat_map of_file t.batches
@@ -185,7 +185,7 @@ module _ (t : Tables) (audited : IsAudited t) (rows_agree : RowsAgree t) where
       in_use true opened = sym opened
       in_use false opened = refl
 
-  -- the rows that pass, each made again from its serial
+  -- The rows that satisfy `p` are the rows built from their serials.
   blanks_again : (p : StoredBlank → Bool) (discarded : Bool)
       → ((b : StoredBlank) → IsAuditedBlank t b → p b ≡ true → stored_blank f discarded b.serial ≡ b)
       → map (stored_blank f discarded) (map (λ (b : StoredBlank). b.serial) (filter p t.blanks)) ≡ filter p t.blanks
@@ -194,7 +194,7 @@ module _ (t : Tables) (audited : IsAudited t) (rows_agree : RowsAgree t) where
       (λ k d within. again (get_or (filter p t.blanks) k d) (All-filter p (IsAuditedBlank t) t.blanks audited.each_blank k d within)
       (filter_passes p t.blanks k d within))
 
-  -- the blanks of the sessions
+  -- The rows built for the blanks of the sessions are the rows built from the serials in `session`.
   blanks_opened : map (λ (s : Session). stored_blank f false s.blank) f.sessions
       ≡ map (stored_blank f false) (map (λ (s : StoredSession). s.serial) t.sessions)
   blanks_opened =

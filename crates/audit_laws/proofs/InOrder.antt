@@ -1,5 +1,5 @@
--- Rows in the order of keys that differ: those of a list that stands in this order, in any order in
--- which no key falls, are that list.
+-- A permutation of a list with strictly increasing keys whose keys never decrease is the list
+-- itself.
 use Rattle.std.proofs.Common.{◌≡◌, ◌≢◌, ◌⊎◌, ℕ, zero, suc, ◌<◌, ◌==◌, ◌&&◌, ◌||◌, Bool, true, List, [], ◌∷◌, length, get_or, All, Contains, inl, inr, refl, sym, ap, ◌∙◌, subst, arith, IsPermutation}
 use Rattle.std.specs.Prelude.{AllPairs, nat_lt}
 use Rattle.std.proofs.lemmas.Bool.{and_from, and_parts, eq-eqb, eqb-true, false≢true, or_cases, or_left, or_right}
@@ -10,7 +10,7 @@ use Rattle.std.proofs.lemmas.List.Sorted.{Contains-permutation, IsPermutation-sy
 use Rattle.step_laws.proofs.Permuted.{in_any_order}
 use Rattle.audit_laws.specs.Audited.{AreOrderedBy, is_up_to}
 
--- ---- pairs in another order
+-- ---- a property of all pairs, in another order of the list
 
 module _ {X : Type 0} (R : X → X → Type 0) (turn : (x y : X) → R x y → R y x) where
   abbrev AreMoved : List X → List X → Type 0
@@ -46,7 +46,7 @@ module _ {X : Type 0} (R : X → X → Type 0) (turn : (x y : X) → R x y → R
   pub pairs_moved : (xs ys : List X) → IsPermutation xs ys → AllPairs R xs → AllPairs R ys
   pairs_moved xs ys same = (moved xs ys same).0
 
--- ---- lists of the same elements, each before all later ones
+-- ---- lists with the same elements, each element before all later ones
 
 module _ {X : Type 0} (Before : X → X → Type 0) (one_way : (x y : X) → Before x y → Before y x → ⊥) where
   in_rest : (x y : X) (ys : List X) → Contains (y ∷ ys) x → (y ≡ x) ⊎ Contains ys x
@@ -98,7 +98,7 @@ module _ {X : Type 0} (Before : X → X → Type 0) (one_way : (x y : X) → Bef
 
 -- ---- keys
 
--- the numbers of the one key stand before those of the other
+-- The first key is less than the second, at the first number in which they differ.
 abbrev pub IsBelow : List ℕ → List ℕ → Type 0
 IsBelow [] ys = ⊥
 IsBelow (x ∷ xs) [] = ⊥

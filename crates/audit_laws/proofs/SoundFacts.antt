@@ -1,4 +1,4 @@
--- The contents of audited rows have sound sessions.
+-- The sessions in the contents of audited rows are sound.
 use Rattle.std.proofs.Common.{◌≡◌, ◌≢◌, ℕ, zero, suc, ◌+◌, ◌≤◌, ◌==◌, ◌&&◌, Bool, true, not, cond, List, [], ◌∷◌, ◌++◌, map, get_or, All, Some, refl, sym, ap, subst, ◌∙◌, arith}
 use Rattle.std.specs.Prelude.{AllPairs, IsSome, bytes_eq, count_by, slice_get, sum_by}
 use Rattle.std.specs.List.{list_any}
@@ -25,7 +25,7 @@ use Rattle.audit_laws.proofs.SoundLists.{differs, equal, same_number}
 use Rattle.audit_laws.proofs.SoundNames.{IsPlaced, are_batches, key_found, name_found, named_found, of_batch}
 use Rattle.audit_laws.proofs.SoundSessions.{batch_is, batch_there, commands_are, rec_is, rec_placed, sessions_agree, sessions_are}
 
--- a name is among those where it stands
+-- A list contains the name at index `k`.
 named_among : (names : List (List ℕ)) (k : ℕ) (n : List ℕ) → slice_get names k ≡ Some n → list_any (bytes_eq n) names ≡ true
 named_among [] k n at = absurd (none-some n at)
 named_among (m ∷ names) zero n at =
@@ -44,7 +44,7 @@ module _ (t : Tables) (audited : IsAudited t) where
   pub are_named : AreNamed f
   are_named = record { products = audited.products; lots = audited.lots; batches = are_batches t audited }
 
-  -- a record that stands in its batch
+  -- The batch of row `r` contains its record.
   pub record_there : (r : StoredRecord) → IsPlaced t (key_of r) → IsRecord f (batch_name t r.batch) r.name
   record_there r at =
       let named =
@@ -107,7 +107,7 @@ module _ (t : Tables) (audited : IsAudited t) where
       ap (λ ss. map blank ss ++ f.discarded) (sessions_are t audited)
       ∙ ap (λ bs. bs ++ f.discarded) (map-map blank (named_session t) t.sessions)
 
-  -- each is that of a row
+  -- Each serial is charged as often as it occurs in the rows.
   charges_counted : (z : ℕ) → count_by (λ a. a == z) (charges f) ≡ count_by (λ (b : StoredBlank). b.serial == z) t.blanks
   charges_counted z =
       let one : ℕ → ℕ = λ a. cond {A = ℕ} (a == z) 1 0 in

@@ -1,4 +1,4 @@
--- Lists whose ids count up, what is kept of a list, and sums where one alone adds.
+-- Lists with consecutive ids, filtered lists, and sums in which only one element counts.
 use Rattle.std.proofs.Common.{◌≡◌, ◌≢◌, ℕ, zero, suc, ◌+◌, ◌<◌, ◌==◌, ◌&&◌, ◌||◌, Bool, true, false, cond, List, [], ◌∷◌, length, map, drop, get_or, All, Some, inl, inr, refl, sym, ap, subst, ◌∙◌, arith}
 use Rattle.std.specs.Prelude.{count_by, filter, find, option_map, slice_get, sum_by, unwrap_or}
 use Rattle.std.specs.List.{enumerate_from, list_any, range_with_len}
@@ -24,7 +24,7 @@ differs a b other = grind (arith, nat_tests)
 pub same_number : (a b : ℕ) → (a == b) ≡ true → a ≡ b
 same_number a b hit = grind (arith, nat_tests)
 
--- ---- ids that count up
+-- ---- consecutive ids
 
 module _ {X : Type 0} (id : X → ℕ) where
   abbrev pub CountUp : ℕ → List X → Type 0
@@ -65,7 +65,7 @@ module _ {X : Type 0} (id : X → ℕ) where
       later_ids xs (n + 1) m (other_ids x xs n up) (omega (arith, first, same)) k d within)
       (ids_once xs (n + 1) m (other_ids x xs n up))
 
-  -- each is found by its id
+  -- A look-up of the id of an element finds this element.
   pub found_each : (xs : List X) (n : ℕ) → CountUp n xs → All (λ x. find (λ y. id y == id x) xs ≡ Some x) xs
   found_each xs n up k d within =
       let x = get_or xs k d in
@@ -81,7 +81,7 @@ module _ {X : Type 0} (id : X → ℕ) where
 -- ---- numbered lists
 
 module _ {X : Type 0} where
-  -- what holds of each with its number holds of the one at a number
+  -- If `P` holds for each element with its number, it holds for the element at index `k`.
   pub numbered_at : (P : ℕ × X → Type 0) (n : ℕ) (xs : List X) → All P (enumerate_from n xs) → (k : ℕ) (x : X) → slice_get xs k ≡ Some x
       → P (n + k, x)
   numbered_at P n xs each k x at =
@@ -89,7 +89,7 @@ module _ {X : Type 0} where
       subst P (get_or-enumerate_from n xs k (0, x) within ∙ ap (λ y. let e : ℕ × X = (n + k, y) in e) (get_or_from_slice_get xs k x x at))
       (each k (0, x) (omega (arith, within, length-enumerate_from n xs)))
 
--- ---- what is kept
+-- ---- filtered lists
 
 module _ {X : Type 0} (keep at p : X → Bool) where
   abbrev IsAlike : X → Type 0
@@ -113,13 +113,14 @@ module _ {X : Type 0} (keep at p : X → Bool) where
       by_false true = refl
       by_false false = refl
 
-  -- whether the one that passes is kept
+  -- The filtered list contains an element that satisfies `p` if and only if it contains `x`, the
+  -- only one.
   pub any_kept : (xs : List X) (x : X) → All IsAlike xs → PassesOnce at xs → find at xs ≡ Some x → list_any p (filter keep xs) ≡ keep x
   any_kept xs x alike once found = any_of_kept xs alike ∙ any_beside at keep xs once ∙ ap (λ o. unwrap_or (option_map keep o) false) found
 
 -- ---- sums
 
--- what is made alike of each counts alike
+-- If `p` is `b` for every element of the mapped list, it counts all of them or none of them.
 pub count_alike : {X Y : Type 0} (p : Y → Bool) (g : X → Y) (b : Bool) → ((x : X) → p (g x) ≡ b) → (xs : List X)
     → count_by p (map g xs) ≡ cond b (length xs) 0
 count_alike p g true same [] = refl

@@ -1,5 +1,5 @@
--- Names and numbers in audited rows: a batch by its id and by its name, a record by its place and
--- by its name.
+-- Names and numbers in audited rows: a batch is found by its id and by its name, a record by its
+-- place and by its name.
 use Rattle.std.proofs.Common.{◌≡◌, ℕ, ◌+◌, ◌==◌, ◌&&◌, Bool, true, false, List, [], map, get_or, All, Some, inl, inr, refl, sym, ap, subst, ◌∙◌, arith}
 use Rattle.std.specs.Prelude.{AllPairs, bytes_eq, find, option_map, slice_get, unwrap_or}
 use Rattle.std.specs.List.{enumerate_from, flat_map}
@@ -28,13 +28,13 @@ use Rattle.row_laws.proofs.Finding.{AllPairs-from_map, AllPairs-map, number_once
 use Rattle.audit_laws.specs.Audited.{IsAudited, file_keys, file_records, key_of}
 use Rattle.audit_laws.proofs.SoundLists.{equal, found_at, found_each, ids_once, numbered_at, numbered_by, same_number}
 
--- where the record of a key stands
+-- The batch with the id in `key` exists, and its file has the name in `key` at the place in `key`.
 pub record IsPlaced (t : Tables) (key : ℕ × (ℕ × List ℕ)) : Type 0 where
   pub batch : StoredBatch
   pub batch_is : find (is_batch key.0) t.batches ≡ Some batch
   pub name_is : slice_get (file_records t batch) key.1.0 ≡ Some key.1.1
 
--- its place is that of its name
+-- The place in `key` is the place of the name `n` if and only if `n` is the name in `key`.
 pub place_named : (t : Tables) (key : ℕ × (ℕ × List ℕ)) (is : IsPlaced t key) (n : List ℕ)
     → (key.1.0 == place_in (file_records t is.batch) n) ≡ bytes_eq n key.1.1
 place_named t key is n =
@@ -74,7 +74,7 @@ module _ (t : Tables) (audited : IsAudited t) where
   pub batch_once : (id : ℕ) → PassesOnce (is_batch id) t.batches
   batch_once id = ids_once batch_id_of t.batches 1 id audited.batch_ids
 
-  -- each is found by its id, and so its name
+  -- A look-up of the id of a batch finds this batch, and therefore its name.
   pub batch_found : All (λ (b : StoredBatch). find (is_batch b.id) t.batches ≡ Some b) t.batches
   batch_found = found_each batch_id_of t.batches 1 audited.batch_ids
 
@@ -87,7 +87,7 @@ module _ (t : Tables) (audited : IsAudited t) where
   once : (n : List ℕ) → AllPairs (λ (x y : Batch). has_name n x ≡ true → has_name n y ≡ false) f.batches
   once n = named_once (λ (b : Batch). b.name) f.batches n are_batches.once
 
-  -- its id is that of its name
+  -- The id of a batch is the id of the name `n` if and only if the batch has the name `n`.
   pub ids_named : (n : List ℕ) → All (λ (b : StoredBatch). (b.id == batch_id f.batches n) ≡ bytes_eq b.name n) t.batches
   ids_named n =
       let id : ℕ = batch_id f.batches n in
@@ -100,7 +100,7 @@ module _ (t : Tables) (audited : IsAudited t) where
       let b = get_or t.batches k d in
       sym (same_number b.id (batch_id f.batches b.name) (ids_named b.name k d within ∙ bytes_eq-same b.name))
 
-  -- each is found by its name
+  -- A look-up of the name of a batch finds this batch.
   pub named_found : All (λ (b : StoredBatch). batch_named f.batches b.name ≡ Some (batch_of_row b)) t.batches
   named_found k d within =
       let b = get_or t.batches k d in
@@ -110,12 +110,12 @@ module _ (t : Tables) (audited : IsAudited t) where
       (found_alone (has_name n) f.batches (once_of (has_name n) f.batches (once n))))
       k d within (bytes_eq-same n)
 
-  -- two have one name where they have one id
+  -- Two batches have the same name if and only if they have the same id.
   pub same_batches : (b : StoredBatch) → batch_id f.batches b.name ≡ b.id
       → All (λ (c : StoredBatch). bytes_eq c.name b.name ≡ (c.id == b.id)) t.batches
   same_batches b own k d within = let c = get_or t.batches k d in sym (ids_named b.name k d within) ∙ ap (λ id. c.id == id) own
 
-  -- what holds of each holds of the one that is found
+  -- A property of all batches is a property of the batch that a look-up finds.
   pub of_batch : (P : StoredBatch → Type 0) (id : ℕ) (b : StoredBatch) → All P t.batches → find (is_batch id) t.batches ≡ Some b → P b
   of_batch P id b each found = find-All (is_batch id) P t.batches b each found
 
@@ -154,7 +154,7 @@ module _ (t : Tables) (audited : IsAudited t) where
       (λ k d within. and_left (b.id == id) _ miss))
       t.batches (batch_once id) (keys_once_in id place)
 
-  -- one at most stands at a place
+  -- At most one record has a place in a batch.
   pub record_once : (id place : ℕ) → PassesOnce (is_record_at id place) t.records
   record_once id place =
       AllPairs-from_map (λ x y. is_key_at id place x ≡ true → is_key_at id place y ≡ false) key_of t.records
@@ -207,7 +207,7 @@ module _ (t : Tables) (audited : IsAudited t) where
         (named ∙ ap (λ id. id == at_r.batch.id) (id_found q.batch at_q.batch at_q.batch_is)
         ∙ ap (λ id. q.batch == id) (id_found r.batch at_r.batch at_r.batch_is) ∙ miss)
 
-    -- two have one name where they stand at one place
+    -- Two records have the same name if and only if they have the same place in the same batch.
     pub same_names : (bytes_eq (batch_name t q.batch) (batch_name t r.batch) && bytes_eq q.name r.name)
         ≡ ((q.batch == r.batch) && (q.place == r.place))
     same_names =

@@ -1,5 +1,5 @@
--- What is known of records and batches is sound in the contents of audited rows; and so these are
--- sound.
+-- The records and batches in the contents of audited rows are sound, and therefore the contents
+-- are.
 use Rattle.std.proofs.Common.{◌≡◌, ℕ, ◌==◌, ◌&&◌, Bool, true, false, cond, List, [], map, get_or, All, Option, Some, None, refl, sym, ap, subst, ◌∙◌, arith}
 use Rattle.std.specs.Prelude.{AllPairs, IsSome, IsTrue, bytes_eq, count_by, find}
 use Rattle.std.specs.List.{list_all, range_with_len}
@@ -32,7 +32,7 @@ use Rattle.audit_laws.proofs.SoundSessions.{kept_states, rec_is}
 use Rattle.audit_laws.proofs.SoundFacts.{are_named, are_sessions, record_there}
 use Rattle.audit_laws.proofs.SoundRows.{batches_agree, records_agree}
 
--- where there is no session, no remake and no withdrawal
+-- A record without sessions, remakes and a withdrawal is sound.
 without_any : IsSoundRecord [] false 0
 without_any = record {
   one_card = omega arith;
@@ -66,7 +66,7 @@ module _ (t : Tables) (audited : IsAudited t) where
         (subst (λ gone. IsSoundRecord (states_at t q) gone (remakes_of f c q.name)) (sym agrees.withdrawn)
         (subst (IsSoundRecord (states_at t q) (is_withdrawn q)) (sym agrees.remakes) is.sound))
 
-    -- ---- a name of no record
+    -- ---- a name that no record has
 
     module _ (none : All (λ q. passes q ≡ false) t.records) where
       no_session : (s : StoredSession) → IsAuditedSession t s

@@ -1,4 +1,4 @@
--- What audited rows give: their records and batches, and so all states.
+-- The contents of audited rows agree with the rows of records and batches, including all states.
 use Rattle.std.proofs.Common.{◌≡◌, ℕ, ◌==◌, ◌&&◌, Bool, true, false, cond, List, map, get_or, All, Some, refl, sym, ap, ◌∙◌}
 use Rattle.std.specs.Prelude.{bytes_eq, count_by, filter, find}
 use Rattle.std.specs.List.{enumerate_from, range_with_len}
@@ -38,7 +38,7 @@ module _ (t : Tables) (audited : IsAudited t) where
     abbrev batch : List ℕ
     batch = batch_name t r.batch
 
-    -- one has its name where it stands at its place
+    -- Row `q` has the name of record `r` if and only if it has its place.
     abbrev IsAlike : StoredRecord → Type 0
     IsAlike q = (bytes_eq (batch_name t q.batch) batch && bytes_eq q.name r.name) ≡ at q
 
@@ -152,7 +152,7 @@ module _ (t : Tables) (audited : IsAudited t) where
         ∙ filter_all is_key_of (file_keys t b)
         (All-map (λ key. is_key_of key ≡ true) (key_in b.id) (enumerate_from 0 (file_records t b)) (λ k d within. equal b.id b.id refl))
 
-    -- its rows have the names of its file
+    -- The rows of a batch have the record names of its file.
     names_are : map (λ (r : StoredRecord). r.name) rows ≡ file_records t b
     names_are =
         let name : ℕ × (ℕ × List ℕ) → List ℕ = λ key. key.1.1 in

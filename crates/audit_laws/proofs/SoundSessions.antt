@@ -1,5 +1,4 @@
--- The sessions of audited rows, as facts: their words, their records, their states and their
--- cursors.
+-- The sessions of audited rows as facts: their status words, records, states and cursors.
 use Rattle.std.proofs.Common.{◌≡◌, ℕ, ◌+◌, ◌==◌, Bool, true, false, List, map, get_or, All, Option, Some, None, refl, sym, ap, ◌∙◌, arith}
 use Rattle.std.specs.Prelude.{filter, find, option_and_then, option_map, slice_get, unwrap_or}
 use Rattle.std.specs.List.{enumerate_from}
@@ -111,7 +110,7 @@ module _ (t : Tables) (audited : IsAudited t) where
     batch_there =
         of_batch t audited (λ b. batch_named f.batches b.name ≡ Some (batch_of_row b)) s.batch is.batch (named_found t audited) is.batch_is
 
-    -- its record stands in its batch
+    -- The batch file contains the record of the session at its place.
     pub rec_placed : IsPlaced t (key_of is.rec)
     rec_placed = of_record t audited (λ r. IsPlaced t (key_of r)) s.batch s.place is.rec (records_placed t audited) is.rec_is
 
@@ -168,7 +167,7 @@ module _ (t : Tables) (audited : IsAudited t) where
   pub sessions_agree : All (SessionAgrees t) t.sessions
   sessions_agree k d within = session_agrees (get_or t.sessions k d) (audited.each_session k d within)
 
-  -- the states of those that are kept
+  -- The sessions that satisfy `p` have the states of their rows.
   pub kept_states : (p : Session → Bool) (q : StoredSession → Bool) → All (λ (s : StoredSession). p (named_session t s) ≡ q s) t.sessions
       → map (session_state f) (filter p f.sessions) ≡ map (λ (s : StoredSession). s.state) (filter q t.sessions)
   kept_states p q alike =

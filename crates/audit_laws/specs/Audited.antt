@@ -1,5 +1,5 @@
--- When the rows of the tables are those of sound contents, given row by row: the audit
--- (docs/TABLES.md, "When rows are taken").
+-- The audit: the conditions on the rows of the tables under which they represent sound contents
+-- (docs/TABLES.md, "Audit rules").
 use Rattle.std.specs.Prelude.{◌≡◌, ◌≢◌, ◌≤◌, ◌==◌, ◌&&◌, ◌||◌, ℕ, Bool, true, false, not, nat_lt, List, [], ◌∷◌, map, flat_map, filter, find, length, count_by, bytes_eq, All, AllPairs, IsPermutation, IsTrue, Some}
 use Rattle.std.specs.List.{enumerate_from, range_with_len}
 use Rattle.store_data.specs.declared.row.Product.{Product}
@@ -21,39 +21,39 @@ use Rattle.table_rows.specs.Tables.{StoredBatch, StoredBlank, StoredGrouping, St
 use Rattle.image_laws.specs.Decided.{batch_name, batch_of_row, discarded_rows, record_name}
 use Rattle.table_rows.specs.Keys.{is_batch, is_record_at, is_record_of, is_running_on}
 
--- ---- files
+-- ---- batch files
 
--- the rows of a batch's file
+-- the rows of the file of batch `b`
 abbrev pub file_rows : Tables → StoredBatch → List Row
 file_rows t b = rows_of t.products (batch_of_row b)
 
--- the names of its records, in file order
+-- the names of the records in the file of batch `b`, in file order
 abbrev pub file_records : Tables → StoredBatch → List (List ℕ)
 file_records t b = records_of t.products (batch_of_row b)
 
--- a record's batch, its place there, and its name
+-- the batch of record `r`, its place there, and its name
 abbrev pub key_of : StoredRecord → ℕ × (ℕ × List ℕ)
 key_of r = (r.batch, (r.place, r.name))
 
--- those of a file's records
+-- the keys of all records in the file of batch `b`, in file order
 abbrev pub file_keys : Tables → StoredBatch → List (ℕ × (ℕ × List ℕ))
 file_keys t b = map (λ (e : ℕ × List ℕ). (b.id, e)) (enumerate_from 0 (file_records t b))
 
--- its rows, as rows of the table; row 1 is the header
+-- the rows of the file of batch `b`, as rows of `grouping2`. Row 1 of the file is the header
 abbrev pub file_groupings : Tables → StoredBatch → List StoredGrouping
 file_groupings t b = map (new_grouping b.id (file_records t b)) (enumerate_from 2 (file_rows t b))
 
 -- ---- sessions
 
--- a session's words
+-- the status words of the session with this id
 abbrev pub words_of : List StoredWord → ℕ → List ℕ
 words_of words id = map (λ (w : StoredWord). w.sw) (filter (λ (w : StoredWord). w.session == id) words)
 
--- they have the places from 0 on
+-- the status words of session `s` as rows of `word`, with the places 0, 1, ..
 abbrev pub placed_words : Tables → StoredSession → List StoredWord
 placed_words t s = map (λ (w : ℕ × ℕ). record { session = s.id; place = w.0; sw = w.1 }) (enumerate_from 0 (words_of t.words s.id))
 
--- a session, with names in place of numbers
+-- session `s` with the names of its batch and record instead of their numbers
 abbrev pub named_session : Tables → StoredSession → Session
 named_session t s = record {
   machine = s.machine;
@@ -64,8 +64,10 @@ named_session t s = record {
   ended = s.ended;
 }
 
--- its words are at most its record's commands, and only the last may fail; its state and its cursor
--- are by these; its blank lies in a lot of its batch's product
+-- Session `s` obeys the audit rules: its record exists, and its blank is in a lot of the product of
+-- its batch. It has at most as many status words as its record has commands, and only the last one
+-- may spoil the session. Its counter, state and cursor follow from these status words and from
+-- `ended`.
 pub record IsAuditedSession (t : Tables) (s : StoredSession) : Type 0 where
   pub machine : IsName s.machine
   pub batch : StoredBatch
@@ -86,40 +88,44 @@ pub record IsAuditedSession (t : Tables) (s : StoredSession) : Type 0 where
 
 -- ---- records
 
--- it is of the record at this place of the batch with this id
+-- Session `s` belongs to the record at `place` of the batch with this id.
 abbrev pub is_session_at : ℕ → ℕ → StoredSession → Bool
 is_session_at id place s = (s.batch == id) && (s.place == place)
 
--- the states of a record's sessions
+-- the states of the sessions of record `r`
 abbrev pub states_at : Tables → StoredRecord → List SessionState
 states_at t r = map (λ (s : StoredSession). s.state) (filter (is_session_at r.batch r.place) t.sessions)
 
+-- Row `r` has the state `Withdrawn`. No other column shows this.
 abbrev pub is_withdrawn : StoredRecord → Bool
 is_withdrawn r = same_record_state rec.Withdrawn r.state
 
+-- Record `r` obeys the audit rules: `remakes` is possible with the states of its sessions, its
+-- state follows from both and from its withdrawal, and `spoiled` counts its spoiled sessions.
 pub record IsAuditedRecord (t : Tables) (r : StoredRecord) : Type 0 where
   pub sound : IsSoundRecord (states_at t r) (is_withdrawn r) r.remakes
   pub state : r.state ≡ state_by (states_at t r) (is_withdrawn r) r.remakes
   pub spoiled : r.spoiled ≡ count_by is_spoiled (states_at t r)
 
--- a record's remakes: their turns are counted up from 1
+-- the rows of `remake` for record `r`, with the turns 1, 2, ..
 abbrev pub turns_of : StoredRecord → List StoredRemake
 turns_of r = map (λ turn. record { batch = r.batch; place = r.place; turn = turn }) (range_with_len 1 r.remakes)
 
 -- ---- batches
 
--- it is of the batch with this id
+-- Session `s` belongs to the batch with this id.
 abbrev pub is_session_of : ℕ → StoredSession → Bool
 is_session_of id s = s.batch == id
 
--- the states of a batch's records, and of its sessions
+-- the states of the records of batch `b`; `session_states_of` are the states of its sessions
 abbrev pub record_states_of : Tables → StoredBatch → List RecordState
 record_states_of t b = map (λ (r : StoredRecord). r.state) (filter (is_record_of b.id) t.records)
 
 abbrev pub session_states_of : Tables → StoredBatch → List SessionState
 session_states_of t b = map (λ (s : StoredSession). s.state) (filter (is_session_of b.id) t.sessions)
 
--- its counters count them, and where it is closed each record is good or withdrawn
+-- Batch `b` obeys the audit rules: its counters count its records and sessions, and if it is
+-- closed, all its records are good or withdrawn.
 pub record IsAuditedBatch (t : Tables) (b : StoredBatch) : Type 0 where
   pub waiting : b.waiting ≡ count_records (record_states_of t b) rec.Waiting
   pub running : b.running ≡ count_records (record_states_of t b) rec.Running
@@ -132,28 +138,30 @@ pub record IsAuditedBatch (t : Tables) (b : StoredBatch) : Type 0 where
 
 -- ---- lots and blanks
 
--- its counter counts its discarded blanks
+-- The counter of lot `l` is the number of its discarded blanks.
 abbrev pub IsAuditedLot : Tables → StoredLot → Type 0
 IsAuditedLot t l = l.discarded ≡ count_by (λ (b : StoredBlank). is_in b.serial l.lot) (discarded_rows t.blanks)
 
--- its serial lies in its lot
+-- The serial of blank `b` is in the lot that the row names.
 pub record IsAuditedBlank (t : Tables) (b : StoredBlank) : Type 0 where
   pub lot : Lot
   pub lot_is : lot_of (map (λ (l : StoredLot). l.lot) t.lots) b.serial ≡ Some lot
   pub named : lot.name ≡ b.lot
 
+-- the blanks that aren't discarded, which sessions opened
 abbrev pub opened_rows : List StoredBlank → List StoredBlank
 opened_rows blanks = filter (λ (b : StoredBlank). not b.discarded) blanks
 
--- ---- all of it
+-- ---- the audit
 
+-- The rows of `t`, in the order of their keys, obey all audit rules.
 pub record IsAudited (t : Tables) : Type 0 where
-  -- what has a name
+  -- products, lots and batches
   pub products : AreProducts t.products
   pub lots : AreLots t.products (map (λ (l : StoredLot). l.lot) t.lots)
   pub batches : AreBatches t.products (map batch_of_row t.batches)
   pub batch_ids : map (λ (b : StoredBatch). b.id) t.batches ≡ range_with_len 1 (length t.batches)
-  -- each file gives just its batch's records and groupings
+  -- The batch files produce exactly the rows of records and groupings.
   pub records : map key_of t.records ≡ flat_map (file_keys t) t.batches
   pub groupings : t.groupings ≡ flat_map (file_groupings t) t.batches
   -- sessions
@@ -161,34 +169,35 @@ pub record IsAudited (t : Tables) : Type 0 where
   pub words : t.words ≡ flat_map (placed_words t) t.sessions
   pub each_session : All (IsAuditedSession t) t.sessions
   pub machines : (machine : List ℕ) → count_by (is_running_on machine) t.sessions ≤ 1
-  -- what follows from them
+  -- values that are computed from other rows
   pub each_record : All (IsAuditedRecord t) t.records
   pub remakes : t.remakes ≡ flat_map turns_of t.records
   pub each_batch : All (IsAuditedBatch t) t.batches
   pub each_lot : All (IsAuditedLot t) t.lots
-  -- blanks: those of sessions, and discarded ones
+  -- blanks: one row for each session and each discarded blank
   pub blanks_once : AllPairs (λ (b c : StoredBlank). b.serial ≢ c.serial) t.blanks
   pub each_blank : All (IsAuditedBlank t) t.blanks
   pub opened : IsPermutation (map (λ (b : StoredBlank). b.serial) (opened_rows t.blanks)) (map (λ (s : StoredSession). s.serial) t.sessions)
-  -- kept replies and marks
+  -- kept replies and release marks
   pub kept : All IsEntry t.replies
   pub kept_once : AllPairs (λ (d e : Entry). is_of_number d e ≡ false) t.replies
   pub marks : All IsMark t.marks
   pub marked_once : AllPairs (λ (m n : Mark). bytes_eq m.client n.client ≡ false) t.marks
   pub above : All (λ (e : Entry). IsTrue (is_above t.marks e)) t.replies
 
--- ---- tables in order
+-- ---- the order of rows
 
--- the numbers of the one key are not behind those of the other
+-- The first key is lexicographically at most the second.
 abbrev pub is_up_to : List ℕ → List ℕ → Bool
 is_up_to [] ys = true
 is_up_to (x ∷ xs) [] = false
 is_up_to (x ∷ xs) (y ∷ ys) = nat_lt x y || ((x == y) && is_up_to xs ys)
 
+-- The keys of `xs` never decrease.
 abbrev pub AreOrderedBy : {X : Type 0} → (X → List ℕ) → List X → Type 0
 AreOrderedBy key xs = AllPairs (λ x y. is_up_to (key x) (key y) ≡ true) xs
 
--- the tables whose keys are numbers that are counted up stand in the order of these
+-- The tables whose keys are consecutive numbers are in the order of their keys.
 pub record AreInOrder (t : Tables) : Type 0 where
   pub batches : AreOrderedBy (λ (b : StoredBatch). b.id ∷ []) t.batches
   pub records : AreOrderedBy (λ (r : StoredRecord). r.batch ∷ r.place ∷ []) t.records

@@ -1,4 +1,4 @@
-//! The audit's laws: when the rows of tables are those of sound contents, given row by row.
+//! Lemmas about the audit of rows: it accepts exactly the rows that represent sound contents.
 #![tactic(auto)]
 
 mod laws;

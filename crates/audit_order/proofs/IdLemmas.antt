@@ -1,4 +1,4 @@
--- Batches whose ids are counted up.
+-- Batches with consecutive ids.
 use Rattle.std.proofs.Common.{◌≡◌, ℕ, ◌+◌, ◌<◌, List, length, get_or, map, Some, sym, ap, ◌∙◌, subst, arith}
 use Rattle.std.specs.Prelude.{find}
 use Rattle.std.specs.List.{position_or_len, range_with_len, slice_get}
@@ -24,7 +24,7 @@ module _ (t : Tables) (ids : map (λ (b : StoredBatch). b.id) t.batches ≡ rang
       position_or_len_is (is_batch id) t.batches i d (omega arith) (λ k before. let other = id_at k d (omega arith) in grind (arith, nat_tests)) (λ inside. grind (arith, nat_tests)) in
       find_at (is_batch id) t.batches ∙ ap (slice_get t.batches) place ∙ slice_get-get_or t.batches i d within
 
--- one after the other
+-- the look-up of each batch, by its index
 found_here : (t : Tables) → map (λ (b : StoredBatch). b.id) t.batches ≡ range_with_len 1 (length t.batches) → (i : ℕ) (b : StoredBatch) → i < length t.batches → b ≡ get_or t.batches i b
     → find (is_batch b.id) t.batches ≡ Some b
 found_here t ids i b within is =

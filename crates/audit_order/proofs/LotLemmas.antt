@@ -1,4 +1,4 @@
--- The lot of a serial is the last of those that begin up to it.
+-- The lot of a serial is the last one whose first serial is at most this serial.
 use Rattle.std.proofs.Common.{◌≡◌, ℕ, ◌+◌, ◌-◌, ◌<◌, ◌≤◌, Bool, true, false, cond, leb, ltb, List, [], ◌∷◌, ◌++◌, length, take, drop, get_or, All, Some, None, inl, inr, refl, sym, ap, ◌∙◌, subst, arith}
 use Rattle.std.specs.Prelude.{find, option_map, slice_get}
 use Rattle.std.proofs.lemmas.Option.{none-some, slice_get-get_or}

@@ -1,4 +1,4 @@
--- What a sort by up to three numbers leaves.
+-- The order of rows after a sort by up to three numbers.
 use Rattle.std.proofs.Common.{◌≡◌, ℕ, ◌≤◌, ◌==◌, true, false, not, ◌&&◌, List, [], ◌∷◌, get_or, All, refl, sym, ap, ◌∙◌, subst, arith, inl, inr}
 use Rattle.std.specs.Prelude.{IsPermutation, bytes_eq, filter}
 use Rattle.std.specs.Cmp.Lexicographic.{slice_cmp}
@@ -39,7 +39,7 @@ module _ {X : Type 0} (key : X → List ℕ) where
   ordered_from_sort xs sorted = λ i j d before within.
       up_to (key (get_or xs i d)) (key (get_or xs j d)) (sorted_far (λ x y. is_lt (key_cmp (key x) (key y))) (ranks_by nat_list_cmp_total key) xs sorted i j d (omega arith) within)
 
--- ---- a stable sort
+-- ---- stability of the sort
 
 equal_is : (xs ys : List ℕ) (o : Ordering) → o ≡ key_cmp xs ys → is_eq o ≡ bytes_eq xs ys
 equal_is = same_from_slice_cmp nat_cmp is_eq bytes_eq refl (λ _ _. refl) (λ _ _. refl) (λ x y xs ys o h. grind (arith, nat_tests))
@@ -90,7 +90,7 @@ module _ {X : Type 0} (first : X → ℕ) (rest : X → List ℕ) where
   ]
 
 module _ {X : Type 0} (first second : X → ℕ) (rest : X → List ℕ) where
-  -- those of one first number rise by the second
+  -- Among the elements with the same first number, the second number doesn't decrease.
   pub second_rising : (xs : List X) → AreOrderedBy (λ x. first x ∷ second x ∷ rest x) xs → (k : ℕ) → IsNonDecreasingBy second (filter (λ x. first x == k) xs)
   second_rising xs ordered k =
       let kept : List X = filter (λ x. first x == k) xs in

@@ -1,4 +1,4 @@
--- A list that is sorted by a number, as the pieces of the numbers in turn.
+-- A list that is sorted by a number is the concatenation of one piece for each number.
 use Rattle.std.proofs.Common.{◌≡◌, ℕ, zero, suc, ◌+◌, ◌<◌, ◌≤◌, Bool, true, false, cond, not, ◌&&◌, eqb, List, [], ◌∷◌, ◌++◌, length, get_or, map, All, inl, inr, refl, sym, ap, ◌∙◌, subst, arith, append-nil}
 use Rattle.std.specs.Prelude.{filter, flat_map}
 use Rattle.std.specs.List.{range_with_len}
@@ -12,10 +12,11 @@ use Rattle.std.proofs.lemmas.List.Kept.{IsNonDecreasingBy-filter}
 use Rattle.table_rows.proofs.Found.{filter_none}
 use Rattle.row_laws.proofs.Finding.{filter_all}
 
--- ---- what passes
+-- ---- filtered lists
 
 module _ {X : Type 0} (p : X → Bool) where
-  -- what holds of those that pass holds of each that does
+  -- A property of all elements of the filtered list is a property of each element that satisfies
+  -- `p`.
   pub All-passed : (P : X → Type 0) (xs : List X) → All P (filter p xs) → All (λ x. p x ≡ true → P x) xs
   All-passed P [] all = All-nil (λ x. p x ≡ true → P x)
   All-passed P (x ∷ xs) all = elim (cases_Bool (p x)) [
@@ -27,7 +28,7 @@ module _ {X : Type 0} (p : X → Bool) where
         All-cons (λ y. p y ≡ true → P y) x xs (λ passes. absurd (false≢true (sym miss ∙ passes))) (All-passed P xs kept)
   ]
 
-  -- those that pass another test, of those that pass this one
+  -- If `q` implies `p`, filtering by `p` before `q` changes nothing.
   pub filter-filter : (q : X → Bool) → ((x : X) → q x ≡ true → p x ≡ true) → (xs : List X) → filter q (filter p xs) ≡ filter q xs
   filter-filter q within [] = refl
   filter-filter q within (x ∷ xs) = elim (cases_Bool (p x)) [
@@ -38,7 +39,7 @@ module _ {X : Type 0} (p : X → Bool) where
         ∙ sym (cond-false (q x) (x ∷ filter q xs) (filter q xs) other)
   ]
 
-  -- those that pass both
+  -- Filtering by `q` and then by `p` keeps the elements that satisfy both.
   pub filter-both : (q : X → Bool) (xs : List X) → filter p (filter q xs) ≡ filter (λ x. q x && p x) xs
   filter-both q [] = refl
   filter-both q (x ∷ xs) = elim (q x) as (λ b. filter p (cond b (x ∷ filter q xs) (filter q xs)) ≡ cond (b && p x) (x ∷ filter (λ y. q y && p y) xs) (filter (λ y. q y && p y) xs)) [
@@ -77,7 +78,7 @@ module _ {X : Type 0} (n : X → ℕ) where
   abbrev pub Within : ℕ → ℕ → X → Type 0
   Within a k x = (a ≤ n x) × (n x < a + k)
 
-  -- those of the least number stand in front
+  -- The list starts with the elements that have the lowest number.
   front_back : (a : ℕ) (xs : List X) → IsNonDecreasingBy n xs → All (λ x. a ≤ n x) xs → xs ≡ filter (of a) xs ++ filter (λ x. not (of a x)) xs
   front_back a [] rising least = refl
   front_back a (x ∷ xs) rising least = elim (cases_Bool (of a x)) [
@@ -111,10 +112,10 @@ module _ {X : Type 0} (n : X → ℕ) where
           (filter-filter (λ x. not (of a x)) (of b) (λ x is. grind (arith, nat_tests)) xs)
           ∙ ap (λ ys. filter (of b) xs ++ ys) (pieces_kept a k (b + 1) (omega arith) xs)
 
--- ---- pieces of owners whose ids are counted up
+-- ---- pieces of owners with consecutive ids
 
 module _ {X B : Type 0} (n : X → ℕ) (id : B → ℕ) where
-  -- sorted rows are the pieces of the owners, where each row has one
+  -- If every row has an owner, the sorted rows are the concatenation of the pieces of the owners.
   pub by_owner : (bs : List B) (xs : List X) → map id bs ≡ range_with_len 1 (length bs) → IsNonDecreasingBy n xs → All (Within n 1 (length bs)) xs
       → xs ≡ flat_map (λ b. filter (of n (id b)) xs) bs
   by_owner bs xs ids rising within =
@@ -130,7 +131,7 @@ module _ {X B : Type 0} (n : X → ℕ) (id : B → ℕ) where
       let none : All (λ x. of n v x ≡ false) (f b) = λ j d inside. let here = own b j d inside in grind (arith, nat_tests) in
       ap (λ ys. ys ++ flat_map (λ b. filter (of n v) (f b)) bs) (filter_none (of n v) (f b) none) ∙ none_behind v f bs own k (a + 1) others (omega arith)
 
-  -- the rows of an owner among joined pieces
+  -- In concatenated pieces, the rows with the id of an owner are the piece of this owner.
   pub own_piece : (f : B → List X) (bs : List B) → ((b : B) → All (λ x. n x ≡ id b) (f b)) → (k a : ℕ) → map id bs ≡ range_with_len a k → (i : ℕ) (d : B) → i < length bs
       → filter (of n (id (get_or bs i d))) (flat_map f bs) ≡ f (get_or bs i d)
   own_piece f bs own k a ids i d inside = filter-flat_map (of n (id (get_or bs i d))) f bs ∙ go bs k a ids i inside

@@ -1,4 +1,4 @@
--- The rows of one number among sorted ones are a range.
+-- Among sorted rows, the rows with one number are a range.
 use Rattle.std.proofs.Common.{◌≡◌, ℕ, ◌+◌, ◌<◌, ◌≤◌, Bool, true, false, eqb, leb, ltb, List, [], ◌∷◌, ◌++◌, length, take, drop, get_or, All, sym, ap, ◌∙◌, subst, arith, inl, inr}
 use Rattle.std.specs.Prelude.{filter}
 use Rattle.std.specs.List.Sorted.{IsPartitionPoint}
@@ -33,7 +33,7 @@ module _ {X : Type 0} (n : X → ℕ) (v : ℕ) (xs : List X) where
   abbrev upto : X → Bool
   upto y = leb (n y) v
 
-  -- between where the numbers reach it and where they pass it
+  -- The range is between the partition points of `<` and `<=`.
   rest_is : (first count : ℕ) → first ≤ length xs → IsPartitionPoint (λ y. below y ≡ true) (λ y. below y ≡ false) xs first
       → count ≤ length (drop first xs) → IsPartitionPoint (λ y. upto y ≡ true) (λ y. upto y ≡ false) (drop first xs) count
       → take count (drop first xs) ≡ filter (λ x. eqb (n x) v) xs

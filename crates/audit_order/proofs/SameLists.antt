@@ -1,4 +1,4 @@
--- A list that is compared with a mapped one, place by place.
+-- A list is compared with a mapped list, element by element.
 use Rattle.std.proofs.Common.{◌≡◌, ℕ, zero, suc, ◌+◌, ◌<◌, ◌≤◌, Bool, true, false, cond, List, [], ◌∷◌, ◌++◌, append-nil, length, take, get_or, map, All, refl, sym, ap, ◌∙◌, subst, arith, inl, inr}
 use Rattle.std.specs.Prelude.{AllPairs, filter}
 use Rattle.std.proofs.lemmas.Bool.{cases_lt}
@@ -6,7 +6,7 @@ use Rattle.std.proofs.lemmas.List.{get_or-take, get_or_default, length-map, leng
 use Rattle.std.proofs.lemmas.List.Quantifiers.{all_pairs_push}
 use Rattle.std.proofs.lemmas.List.Elements.{All-more, filter_more}
 
--- what is mapped, at a place
+-- the element of the mapped list at index `k`
 pub get_or-map : {X Y : Type 0} (f : X → Y) (xs : List X) (k : ℕ) (d : X) (e : Y) → k < length xs → get_or (map f xs) k e ≡ f (get_or xs k d)
 get_or-map f [] k d e within = absurd (omega arith)
 get_or-map f (x ∷ xs) zero d e within = refl
@@ -28,7 +28,7 @@ module _ {X Y : Type 0} (f : X → Y) (xs : List X) (ys : List Y) where
     | inr after ↦ let is : k ≡ i = omega arith in subst IsSameAt (sym is) here
   ]
 
-  -- by the elements there
+  -- equality at index `i`, from the elements there
   pub same_here : (i : ℕ) (x : X) (y : Y) → i < length xs → i < length ys → x ≡ get_or xs i x → y ≡ get_or ys i y → f x ≡ y → IsSameAt i
   same_here i x y in_xs in_ys x_is y_is same = λ d e.
       ap f (get_or_default xs i d x in_xs ∙ sym x_is) ∙ same ∙ y_is ∙ get_or_default ys i y e in_ys
@@ -49,18 +49,18 @@ module _ {X Y : Type 0} (f : X → Y) (xs : List X) (ys : List Y) where
   pub same_length : map f xs ≡ ys → length xs ≡ length ys
   same_length same = sym (length-map xs f) ∙ ap length same
 
--- what holds of each holds of the one there
+-- A property of all elements is a property of the element at index `i`.
 pub All-here : {X : Type 0} (P : X → Type 0) (xs : List X) (i : ℕ) (x : X) → i < length xs → x ≡ get_or xs i x → All P xs → P x
 All-here P xs i x within is all = subst P (sym is) (all i x within)
 
--- one more that it holds of
+-- The property is proved for one more element.
 pub All-next : {X : Type 0} (P : X → Type 0) (xs : List X) (i : ℕ) (x : X) → i < length xs → x ≡ get_or xs i x → All P (take i xs) → P x → All P (take (i + 1) xs)
 All-next P xs i x within is all here = All-more P xs i x within all (subst P is here)
 
 pub All-done : {X : Type 0} (P : X → Type 0) (xs : List X) (i : ℕ) → length xs ≤ i → All P (take i xs) → All P xs
 All-done P xs i end all = subst (All P) (take_all i xs end) all
 
--- the same list, place by place
+-- equality of two lists, element by element
 module _ {X : Type 0} (xs ys : List X) where
   pub all_equal : length xs ≡ length ys → AreSameBelow (λ x. x) xs ys (length xs) → xs ≡ ys
   all_equal count below = sym (map-id xs) ∙ all_same (λ x. x) xs ys count below
@@ -68,7 +68,7 @@ module _ {X : Type 0} (xs ys : List X) where
   pub here_equal : (i : ℕ) (x y : X) → i < length xs → i < length ys → x ≡ get_or xs i x → y ≡ get_or ys i y → xs ≡ ys → x ≡ y
   here_equal i x y in_xs in_ys x_is y_is same = here_same (λ x. x) xs ys i x y in_xs in_ys x_is y_is (map-id xs ∙ same)
 
--- what holds of what is mapped
+-- A property of all elements of the mapped list, as a property of the elements before the map.
 pub All-unmapped : {X Y : Type 0} (f : X → Y) (P : Y → Type 0) (xs : List X) → All P (map f xs) → All (λ x. P (f x)) xs
 All-unmapped f P xs all = λ k d within. subst P (get_or-map f xs k d (f d) within) (all k (f d) (omega (arith, length-map xs f)))
 
@@ -88,7 +88,7 @@ module _ {X : Type 0} (R : X → X → Type 0) (xs : List X) where
   pub pairs_done : (i : ℕ) → length xs ≤ i → AllPairs R (take i xs) → AllPairs R xs
   pairs_done i end pairs = subst (AllPairs R) (take_all i xs end) pairs
 
--- ---- what passes a test, mapped
+-- ---- a filtered list, mapped
 
 module _ {X Y : Type 0} (f : X → Y) (p : X → Bool) (xs : List X) (i : ℕ) (x : X) (within : i < length xs) (is : x ≡ get_or xs i x) where
   one_more : filter p (take (i + 1) xs) ≡ filter p (take i xs) ++ cond (p x) (x ∷ []) []

@@ -1,5 +1,5 @@
-//! Rows of the store's tables in the order of their keys, and what is found among them: the rows of
-//! a number, the lot of a serial, the product of a name.
+//! Sorts the rows of the tables by their keys, and finds the rows with a number, the lot of a
+//! serial and the product with a name among them.
 #![tactic(auto)]
 
 mod lots;

@@ -1,11 +1,11 @@
-//! The lot of a serial.
+//! Finds the lot of a serial.
 ghost use Rattle.std.specs.Prelude.{◌≡◌, ◌≤◌, option_map};
 ghost use Rattle.job_facts.specs.States.{is_in, lot_of};
 ghost use Rattle.audit_order.specs.Order.{AreLotsInOrder, AreReady, lots_of};
 
 use table_rows::{StoredLot, Tables};
 
-// Whether a serial that is not below the lot's first lies in it.
+// Returns `true` if `lot` contains `serial`, which is not below the first serial of the lot.
 fn is_around(lot: &StoredLot, serial: u64) -> bool
     requires { lot.now.lot.first ≤ serial }
     ensures { result ≡ is_in serial lot.now.lot }
@@ -13,7 +13,8 @@ fn is_around(lot: &StoredLot, serial: u64) -> bool
     serial - lot.low_serial < u64::from(lot.amount)
 }
 
-// The lot that this serial lies in.
+// Returns the lot that contains `serial`. It can only be the last lot whose first serial is at most
+// `serial`, because lots don't overlap.
 fn lot_of(lots: &[StoredLot], serial: u64) -> Option<&StoredLot>
     requires { AreLotsInOrder lots.now }
     ensures { option_map (λ lot. lot.now.lot) result ≡ lot_of (lots_of lots.now) serial }
@@ -27,7 +28,7 @@ fn lot_of(lots: &[StoredLot], serial: u64) -> Option<&StoredLot>
     }
 }
 
-/// The lot of the tables that this serial lies in.
+/// Returns the lot of `tables` that contains `serial`.
 pub fn lot_for(tables: &Tables, serial: u64) -> Option<&StoredLot>
     requires { AreReady tables.now }
     ensures { option_map (λ lot. lot.now.lot) result ≡ lot_of (lots_of tables.now.lots) serial }

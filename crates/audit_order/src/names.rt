@@ -1,4 +1,4 @@
-//! Names, and what stands under them.
+//! Checks names, and finds the product with a name.
 ghost use Rattle.std.specs.Prelude.{◌≡◌, IfSome, bytes_eq};
 ghost use Rattle.store_data.specs.Name.{is_name};
 ghost use Rattle.store_data.specs.Sequence.{IsProduct};
@@ -8,14 +8,14 @@ ghost use Rattle.job_facts.specs.States.{product_named};
 use store_data::{Name, Product};
 use table_rows::StoredProduct;
 
-/// Whether these bytes are a name.
+/// Returns `true` if `bytes` is a valid name.
 pub fn is_name(bytes: &[u8]) -> bool
     ensures { result ≡ is_name bytes.now }
 {
     Name::new(bytes).is_some()
 }
 
-// A product of the table.
+// Returns the product of a row of `product`.
 fn product_of(row: &StoredProduct) -> Product
     requires { IsName row.now.code }
     ensures { result ≡ row.now }
@@ -28,14 +28,13 @@ fn product_of(row: &StoredProduct) -> Product
     }
 }
 
-// Whether a product has this name.
 fn has_name(row: &StoredProduct, name: &[u8]) -> bool
     ensures { result ≡ bytes_eq row.now.code name.now }
 {
     row.name.as_slice() == name
 }
 
-/// The product of this name.
+/// Returns the product with the name `name`.
 pub fn product_named(products: &[StoredProduct], name: &[u8]) -> Option<Product>
     requires { AreProducts products.now }
     ensures value { result ≡ product_named products.now name.now }

@@ -1,20 +1,24 @@
-//! Rows in the order of their keys.
+//! Sorts rows by their keys.
 ghost use Rattle.std.specs.Prelude.{◌≡◌, ℕ, List, OnOk, IsPermutation, filter};
 ghost use Rattle.audit_laws.specs.Audited.{AreOrderedBy};
 ghost use Rattle.audit_order.specs.Order.{has_key};
 
 use std::alloc::AllocError;
 
-/// Rows that are sorted by up to three numbers.
+/// A row with a sort key of up to three numbers.
 pub trait InOrder {
     ghost key: { Self → List ℕ };
 
-    /// The numbers, the first weighing most; 0 in place of each that is missing.
+    /// Returns the numbers of the key, most significant first. Unused ones are 0.
     fn key(&self) -> [u64; 3]
         ensures { result ≡ key self.now };
 }
 
-/// Sorts rows by their keys.
+/// Sorts `rows` by their keys. Rows with equal keys keep their order.
+///
+/// # Errors
+///
+/// Returns `AllocError` if an allocation fails. The rows are then in any order, but none is lost.
 pub fn sort_rows<T: InOrder + Drop>(rows: &mut Vec<T>) -> Result<(), AllocError>
     ensures same { IsPermutation rows.old.items rows.new.items }
     ensures ordered { OnOk result (AreOrderedBy T.key rows.new.items) }

@@ -1,19 +1,19 @@
-//! The rows of one number among sorted ones.
+//! Finds the rows with a number among sorted rows.
 ghost use Rattle.std.specs.Prelude.{◌≡◌, ◌==◌, ℕ, filter};
 ghost use Rattle.std.specs.List.Sorted.{IsNonDecreasingBy};
 
 use table_rows::{StoredGrouping, StoredRecord, StoredSession, StoredWord};
 
-/// Rows that are found by a number by which they are sorted.
+/// A row with a number by which rows are sorted and found.
 pub trait Ranged {
     ghost number: { Self → ℕ };
 
-    /// The number.
+    /// Returns the number.
     fn number(&self) -> u64
         ensures { result ≡ number self.now };
 }
 
-/// Records are found by their batch.
+/// A record is found by the id of its batch.
 impl Ranged for StoredRecord {
     ghost number = { λ stored. stored.batch };
 
@@ -22,7 +22,7 @@ impl Ranged for StoredRecord {
     }
 }
 
-/// Groupings are found by their batch.
+/// A grouping is found by the id of its batch.
 impl Ranged for StoredGrouping {
     ghost number = { λ grouping. grouping.batch };
 
@@ -31,7 +31,7 @@ impl Ranged for StoredGrouping {
     }
 }
 
-/// Sessions are found by their batch.
+/// A session is found by the id of its batch.
 impl Ranged for StoredSession {
     ghost number = { λ session. session.batch };
 
@@ -40,7 +40,7 @@ impl Ranged for StoredSession {
     }
 }
 
-/// Words are found by their session.
+/// A status word is found by the id of its session.
 impl Ranged for StoredWord {
     ghost number = { λ word. word.session };
 
@@ -49,7 +49,7 @@ impl Ranged for StoredWord {
     }
 }
 
-/// The rows of this number, in their order.
+/// Returns the rows with the number `number`, in their order.
 pub fn range_of<T: Ranged>(rows: &[T], number: u64) -> &[T]
     requires { IsNonDecreasingBy T.number rows.now }
     ensures { result.now ≡ filter (λ row. T.number row == number) rows.now }

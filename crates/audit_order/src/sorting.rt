@@ -1,4 +1,4 @@
-//! The rows of each table in order.
+//! Sorts the rows of the tables.
 ghost use Rattle.std.specs.Prelude.{◌∷◌, [], OnOk};
 ghost use Rattle.table_rows.specs.Tables.{HaveSameRows};
 ghost use Rattle.audit_order.specs.Order.{AreSorted};
@@ -10,7 +10,7 @@ use table_rows::{
     StoredWord, Tables,
 };
 
-/// Lots by their first serials.
+/// Lots are sorted by their first serials.
 impl InOrder for StoredLot {
     ghost key = { λ l. l.lot.first ∷ 0 ∷ 0 ∷ [] };
 
@@ -19,7 +19,7 @@ impl InOrder for StoredLot {
     }
 }
 
-/// Batches by their ids.
+/// Batches are sorted by their ids.
 impl InOrder for StoredBatch {
     ghost key = { λ b. b.id ∷ 0 ∷ 0 ∷ [] };
 
@@ -28,7 +28,7 @@ impl InOrder for StoredBatch {
     }
 }
 
-/// Records by their batches and places.
+/// Records are sorted by batch and place.
 impl InOrder for StoredRecord {
     ghost key = { λ r. r.batch ∷ r.place ∷ 0 ∷ [] };
 
@@ -37,7 +37,7 @@ impl InOrder for StoredRecord {
     }
 }
 
-/// Groupings by their batches and row numbers.
+/// Groupings are sorted by batch and row number.
 impl InOrder for StoredGrouping {
     ghost key = { λ g. g.batch ∷ g.line ∷ 0 ∷ [] };
 
@@ -46,7 +46,7 @@ impl InOrder for StoredGrouping {
     }
 }
 
-/// Sessions by their ids.
+/// Sessions are sorted by their ids.
 impl InOrder for StoredSession {
     ghost key = { λ s. s.id ∷ 0 ∷ 0 ∷ [] };
 
@@ -55,7 +55,7 @@ impl InOrder for StoredSession {
     }
 }
 
-/// Words by their sessions and places.
+/// Status words are sorted by session and place.
 impl InOrder for StoredWord {
     ghost key = { λ w. w.session ∷ w.place ∷ 0 ∷ [] };
 
@@ -64,7 +64,7 @@ impl InOrder for StoredWord {
     }
 }
 
-/// Blanks by their serials.
+/// Blanks are sorted by their serials.
 impl InOrder for StoredBlank {
     ghost key = { λ b. b.serial ∷ 0 ∷ 0 ∷ [] };
 
@@ -73,7 +73,7 @@ impl InOrder for StoredBlank {
     }
 }
 
-/// Remakes by their batches, places and turns.
+/// Remakes are sorted by batch, place and turn.
 impl InOrder for StoredRemake {
     ghost key = { λ r. r.batch ∷ r.place ∷ r.turn ∷ [] };
 
@@ -82,8 +82,13 @@ impl InOrder for StoredRemake {
     }
 }
 
-/// Sorts the rows of all tables but those of products, replies and marks by their keys. Time is
-/// their number times its logarithm.
+/// Sorts the rows of all tables by their keys, except the products, kept replies and release marks.
+/// Takes time in O(n log n) for n rows.
+///
+/// # Errors
+///
+/// Returns `AllocError` if an allocation fails. Some tables may then be unsorted, but no row is
+/// lost.
 pub fn sort_tables(tables: &mut Tables) -> Result<(), AllocError>
     ensures same { HaveSameRows tables.old tables.new }
     ensures sorted { OnOk result (AreSorted tables.new) }

@@ -1,4 +1,4 @@
--- The audit by its parts.
+-- The parts of the audit are equivalent to the whole.
 use Rattle.std.proofs.Common.{◌≡◌, ℕ, ◌-◌, ◌<◌, true, false, List, [], ◌∷◌, length, get_or, map, All, Some, refl, sym, ap, ◌∙◌, subst, arith}
 use Rattle.std.specs.Prelude.{◌==◌, filter, find, flat_map}
 use Rattle.std.specs.List.{enumerate_from, position_or_len, range_with_len}
@@ -53,7 +53,7 @@ module _ (t : Tables) (ids : map (λ (b : StoredBatch). b.id) t.batches ≡ rang
   own_ids : All (λ (b : StoredBatch). IsIdOf (length t.batches) b.id) t.batches
   own_ids = λ i d within. let id_is = id_at t ids i d within in (omega arith, omega arith)
 
-  -- what holds at each batch of its rows, where each row has a batch
+  -- If every row has a batch, a property of the rows of each batch is a property of all rows.
   each_row : {X : Type 0} (n : X → ℕ) (P : X → Type 0) (xs : List X) → All (λ x. IsIdOf (length t.batches) (n x)) xs
       → All (λ (b : StoredBatch). All P (filter (λ x. n x == b.id) xs)) t.batches → All P xs
   each_row n P xs in_range each = λ k d within.
@@ -96,7 +96,7 @@ module _ (t : Tables) (named : AllHold named_rules t) where
   abbrev owned : AreOwned (length t.batches) t.records t.groupings t.sessions
   owned = named.1.1.1.1.1.0
 
--- ---- from the rules
+-- ---- from the rules to the audit
 
 module _ (t : Tables) (sorted : AreSorted t) (named : AllHold named_rules t) (files : All (IsAuditedFile t) t.batches) where
   abbrev ids : map (λ (b : StoredBatch). b.id) t.batches ≡ range_with_len 1 (length t.batches)
@@ -145,12 +145,12 @@ module _ (t : Tables) (sorted : AreSorted t) (named : AllHold named_rules t) (fi
     kept_once = replies.1.1.1.1.0;
   }
 
--- rows in order that keep all rules pass the audit
+-- Sorted rows that obey all rules pass the audit.
 pub rows_pass : (t : Tables) → AreSorted t → AllHold rules t → IsAudited t
 rows_pass t sorted (p, (l, (b, (bi, (si, (o, (f, (w, (r, (m, (lc, (bt, (bl, (ob, replies)))))))))))))) =
     audited t sorted (p, (l, (b, (bi, (si, (o, tt)))))) f (w, (r, (m, tt))) (lc, (bt, (bl, (ob, tt)))) replies
 
--- ---- what the first rules make ready
+-- ---- preconditions that follow from the first rules
 
 module _ (t : Tables) (sorted : AreSorted t) (named : AllHold named_rules t) where
   pub ready_of : AreReady t
@@ -175,7 +175,7 @@ module _ (t : Tables) (sorted : AreSorted t) (named : AllHold named_rules t) whe
       let each = each_row t (batch_ids t named) (λ (s : StoredSession). s.batch) (IsAuditedSession t) t.sessions (owned t named).sessions_are (λ i d within. (files i d within).each_session) in
       λ k d within. (each k d within).machine
 
--- ---- to the rules
+-- ---- from the audit to the rules
 
 module _ (t : Tables) (a : IsAudited t) where
   owners_of : AreOwned (length t.batches) t.records t.groupings t.sessions

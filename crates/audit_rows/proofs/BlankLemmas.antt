@@ -1,4 +1,4 @@
--- Blanks by their serials.
+-- The blanks of lots and sessions, compared by their serials.
 use Rattle.std.proofs.Common.{◌≡◌, ◌≢◌, ℕ, true, false, cond, List, get_or, map, All, sym, ◌∙◌, subst, arith}
 use Rattle.std.specs.Prelude.{◌==◌, AllPairs, IsPermutation, count_by}
 use Rattle.std.specs.List.Sorted.{IsNonDecreasing}
@@ -13,7 +13,7 @@ use Rattle.row_laws.proofs.TotalRows.{sum_by-map}
 use Rattle.audit_rows.proofs.NamedLemmas.{pairs_weaker}
 use Rattle.audit_rows.proofs.SortedLemmas.{sorted_same}
 
--- ---- counted
+-- ---- counters
 
 module _ (lots : List StoredLot) (blanks : List StoredBlank) (serials : List ℕ) (same : IsPermutation (map (λ (b : StoredBlank). b.serial) (discarded_rows blanks)) serials) where
   counted : (l : StoredLot) → count_by (λ serial. is_in serial l.lot) serials ≡ count_by (λ (b : StoredBlank). is_in b.serial l.lot) (discarded_rows blanks)
@@ -29,7 +29,7 @@ module _ (lots : List StoredLot) (blanks : List StoredBlank) (serials : List ℕ
       → All (λ (l : StoredLot). l.discarded ≡ count_by (λ serial. is_in serial l.lot) serials) lots
   by_serials all = λ k d within. all k d within ∙ sym (counted (get_or lots k d))
 
--- ---- the same ones
+-- ---- equal sets of serials
 
 pub same_if : (xs ys us vs : List ℕ) → IsPermutation xs us → IsPermutation ys vs → us ≡ vs → IsPermutation xs ys
 same_if xs ys us vs to_us to_vs same =
@@ -39,7 +39,7 @@ pub same_only : (xs ys us vs : List ℕ) → IsPermutation xs us → IsPermutati
 same_only xs ys us vs to_us to_vs up_u up_v same =
     sorted_same us vs up_u up_v (IsPermutation-trans us xs vs (IsPermutation-sym xs us to_us) (IsPermutation-trans xs ys vs same to_vs))
 
--- ---- once
+-- ---- serials without duplicates
 
 differ : (m n : ℕ) → (n == m) ≡ false → m ≢ n
 differ m n e = λ same. absurd (let yes_ : (n == m) ≡ true = grind (arith, nat_tests) in false≢true (sym e ∙ yes_))

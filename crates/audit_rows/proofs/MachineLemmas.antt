@@ -1,4 +1,5 @@
--- A machine runs at most one session where no two that run have one machine.
+-- A machine has at most one running session if and only if the machines of the running sessions are
+-- distinct.
 use Rattle.std.proofs.Common.{◌≡◌, ℕ, zero, suc, ◌+◌, ◌<◌, ◌≤◌, Bool, true, false, cond, ◌&&◌, List, [], ◌∷◌, length, get_or, map, All, inl, inr, refl, sym, ap, ◌∙◌, subst, arith}
 use Rattle.std.specs.Prelude.{AllPairs, bytes_eq, count_by, filter}
 use Rattle.std.proofs.lemmas.Bool.{cases_Bool, cond-false, cond-true}
@@ -9,7 +10,7 @@ use Rattle.job_facts.specs.States.{is_running}
 use Rattle.table_rows.specs.Keys.{is_running_on}
 use Rattle.table_rows.specs.Tables.{StoredSession}
 
--- how many run on a machine
+-- the number of running sessions of machine `m`
 abbrev many : List ℕ → List StoredSession → ℕ
 many m ss = count_by (is_running_on m) ss
 
@@ -25,7 +26,7 @@ AreOnce names = AllPairs (λ (m n : List ℕ). bytes_eq n m ≡ false) names
 tail_once : (n : List ℕ) (names : List (List ℕ)) → AreOnce (n ∷ names) → AreOnce names
 tail_once n names pairs = λ i j d before within. pairs (suc i) (suc j) d (omega arith) (omega arith)
 
--- none runs on a machine that is not among those that run
+-- A machine that isn't among the machines of running sessions has no running session.
 none_runs : (m : List ℕ) (ss : List StoredSession) → All (λ n. bytes_eq n m ≡ false) (running ss) → many m ss ≡ 0
 none_runs m [] all = refl
 none_runs m (s ∷ ss) all = elim (cases_Bool (is_running s.state)) [
@@ -70,7 +71,7 @@ running_more s ss runs = ap (map (λ (x : StoredSession). x.machine)) (cond-true
 running_same : (s : StoredSession) (ss : List StoredSession) → is_running s.state ≡ false → running (s ∷ ss) ≡ running ss
 running_same s ss rests = ap (map (λ (x : StoredSession). x.machine)) (cond-false (is_running s.state) (s ∷ filter runs_there ss) (filter runs_there ss) rests)
 
--- at most one more than none
+-- A session adds at most 1 to a number of 0.
 one_more : (m : List ℕ) (s : StoredSession) (ss : List StoredSession) → many m ss ≡ 0 → many m (s ∷ ss) ≤ 1
 one_more m s ss missing = elim (cases_Bool (is_running_on m s)) [
   | inl on ↦ subst (λ n. n ≤ 1) (sym (more m s ss on ∙ ap (λ n. 1 + n) missing)) (omega arith)
@@ -94,7 +95,7 @@ runs_once (s ∷ ss) pairs m = elim (cases_Bool (is_running s.state)) [
       subst (λ n. n ≤ 1) (sym (same_many m s ss (ap (λ b. bytes_eq s.machine m && b) rests ∙ never (bytes_eq s.machine m)))) (runs_once ss (subst AreOnce (running_same s ss rests) pairs) m)
 ]
 
--- as many where one more stands in front, or more
+-- A session that is added at the front doesn't lower the number.
 not_fewer : (m : List ℕ) (s : StoredSession) (ss : List StoredSession) → 1 ≤ many m ss → 1 ≤ many m (s ∷ ss)
 not_fewer m s ss there = elim (cases_Bool (is_running_on m s)) [
   | inl on ↦ subst (λ n. 1 ≤ n) (sym (more m s ss on)) (omega arith)
@@ -109,7 +110,7 @@ in_front : (s : StoredSession) (ss : List StoredSession) (k : ℕ) (d : List ℕ
 in_front s ss zero d inside runs rest = subst (λ n. 1 ≤ n) (sym (more s.machine s ss (own_runs s runs))) (omega arith)
 in_front s ss (suc k) d inside runs rest = not_fewer (get_or (running ss) k d) s ss (rest k (omega arith))
 
--- the machine of one that runs runs it
+-- The machine of a running session has at least one running session.
 some_runs : (ss : List StoredSession) (k : ℕ) (d : List ℕ) → k < length (running ss) → 1 ≤ many (get_or (running ss) k d) ss
 some_runs [] k d within = absurd (omega arith)
 some_runs (s ∷ ss) k d within =

@@ -1,4 +1,4 @@
--- Rows that are apart have names and serials of their own.
+-- Rows that are apart have different names, and lots share no serial.
 use Rattle.std.proofs.Common.{◌≡◌, ℕ, ◌+◌, ◌≤◌, Bool, true, false, not, ◌&&◌, ◌||◌, leb, List, length, get_or, map, All, inl, inr, refl, sym, ap, ◌∙◌, arith}
 use Rattle.std.specs.Prelude.{AllPairs, bytes_eq}
 use Rattle.std.proofs.lemmas.Bool.{and_parts, cases_Bool}

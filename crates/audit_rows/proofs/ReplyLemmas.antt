@@ -1,4 +1,4 @@
--- Kept replies and marks by their clients.
+-- Kept replies and release marks of clients.
 use Rattle.std.proofs.Common.{◌≡◌, ℕ, ◌+◌, ◌<◌, false, not, cond, ◌&&◌, ltb, List, [], ◌∷◌, length, get_or, map, Option, Some, None, refl, sym, ap, ◌∙◌, arith, inl, inr}
 use Rattle.std.specs.Prelude.{◌==◌, AllPairs, bytes_eq, option_map, unwrap_or}
 use Rattle.std.specs.List.{position, position_or_len}
@@ -12,7 +12,7 @@ use Rattle.step_laws.proofs.BlankSums.{bytes_eq_either}
 use Rattle.row_laws.proofs.Finding.{AllPairs-from_map, AllPairs-map}
 use Rattle.audit_rows.proofs.NamedLemmas.{pairs_weaker}
 
--- ---- one of each
+-- ---- keys without duplicates
 
 pub marks_once : (marks : List Mark) → AllPairs (λ (m n : List ℕ). bytes_eq n m ≡ false) (map (λ (m : Mark). m.client) marks) → AllPairs (λ (m n : Mark). bytes_eq m.client n.client ≡ false) marks
 marks_once marks pairs =
@@ -46,7 +46,7 @@ once_kept replies pairs =
     AllPairs-map is_other number_of replies
     (pairs_weaker (λ (d e : Entry). is_of_number d e ≡ false) (λ (d e : Entry). is_other (number_of d) (number_of e)) (λ d e other. sym (turned d e) ∙ other) replies pairs)
 
--- ---- a client's release mark
+-- ---- the release mark of a client
 
 place-map : (n : List ℕ) (marks : List Mark) → position_or_len (bytes_eq n) (map (λ (m : Mark). m.client) marks) ≡ position_or_len (has_mark n) marks
 place-map n [] = refl

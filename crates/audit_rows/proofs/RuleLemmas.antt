@@ -1,4 +1,4 @@
--- The first of rules that fails.
+-- The first rule of a list that fails.
 use Rattle.std.proofs.Common.{◌≡◌, Bool, true, false, List, [], ◌∷◌, ◌++◌, Option, Some, None, Result, Ok, Err, is_some, ap, append_assoc, refl, subst, sym, ◌∙◌}
 use Rattle.std.specs.Prelude.{IfOk, IfSome}
 use Rattle.std.proofs.lemmas.Bool.{false≢true}
@@ -6,7 +6,7 @@ use Rattle.table_rows.specs.Tables.{Tables}
 use Rattle.audit_rows.specs.declared.rule.Rule.{Rule}
 use Rattle.audit_rows.specs.Rules.{AllHold, FailsFirst, Holds, IsFirstFailing, rules}
 
--- what a failed test gives
+-- A rule fails if its check returns `false`.
 pub broken : {P : Type 0} {r : Bool} → r ≡ false → (r ≡ true → P) × (P → r ≡ true) → ¬ P
 broken is tested = λ p. false≢true (sym is ∙ tested.1 p)
 
@@ -19,11 +19,11 @@ module _ (t : Tables) where
   holds_among [] after rule held = held.0
   holds_among (r ∷ before) after rule held = holds_among before after rule held.1
 
-  -- it fails after these
+  -- A rule that fails is the first if the rules before it hold.
   pub fails_at : (before after : List Rule) (rule : Rule) → AllHold before t → ¬ Holds rule t → FailsFirst (before ++ rule ∷ after) t rule
   fails_at before after rule held broken = record { before = before; after = after; place = refl; hold = held; fails = broken }
 
-  -- none fails where all hold
+  -- If all rules hold, no rule fails.
   pub none_fails : (some : List Rule) (o : Option Rule) → AllHold some t → IsFirstFailing some t o → is_some o ≡ false
   none_fails some None held first = refl
   none_fails some (Some rule) held first =
@@ -33,7 +33,8 @@ module _ (t : Tables) where
   where_none some None is first = first
   where_none some (Some rule) is first = absurd (false≢true (sym is))
 
-  -- the first of some rules is the first of more
+  -- The first failing rule of a list is also the first of any longer list that starts with this
+  -- list.
   pub first_of_more : (some more : List Rule) (o : Option Rule) → is_some o ≡ true → IsFirstFailing some t o → IsFirstFailing (some ++ more) t o
   first_of_more some more None is first = absurd (false≢true is)
   first_of_more some more (Some rule) is first = record {
@@ -44,7 +45,7 @@ module _ (t : Tables) where
     fails = first.fails;
   }
 
-  -- and the first of those that follow rules that hold
+  -- If the rules of a list hold, the first failing rule after it is the first of both lists.
   pub first_after : (some more : List Rule) (o : Option Rule) → AllHold some t → IsFirstFailing more t o → IsFirstFailing (some ++ more) t o
   first_after some more None held first = all_hold some more held first
   first_after some more (Some rule) held first = record {
@@ -59,7 +60,7 @@ module _ (t : Tables) where
   first_found_after some more (Ok o) held first = first_after some more o held first
   first_found_after some more (Err e) held first = tt
 
-  -- ---- of all rules
+  -- ---- all rules
 
   pub none_found : {E B : Type 0} (r : Result (Option Rule) E) → (AllHold rules t → B) → (B → AllHold rules t) → IfOk r (IsFirstFailing rules t)
       → IfOk r (λ found. (is_some found ≡ false → B) × (B → is_some found ≡ false))

@@ -1,4 +1,4 @@
--- Sorted numbers: the same ones stand in one way, and those of a range stand together.
+-- Sorted numbers: equal multisets are equal lists, and the numbers of a range are contiguous.
 use Rattle.std.proofs.Common.{◌≡◌, ℕ, suc, ◌+◌, ◌-◌, ◌<◌, ◌≤◌, Bool, true, false, cond, ◌&&◌, eqb, leb, ltb, List, [], ◌∷◌, ◌++◌, length, take, drop, get_or, All, refl, sym, ap, ◌∙◌, arith, inl, inr}
 use Rattle.std.specs.Prelude.{IsPermutation, count_by, filter}
 use Rattle.std.specs.List.Sorted.{IsNonDecreasing, IsPartitionPoint}
@@ -9,7 +9,7 @@ use Rattle.std.proofs.lemmas.List.Sorted.{sum_by-IsPermutation}
 use Rattle.std.proofs.lemmas.List.Sums.{length-filter, sum_by-cons}
 use Rattle.audit_order.proofs.RangeLemmas.{filter_middle}
 
--- how often a number stands in a list
+-- the number of occurrences of `v` in `xs`
 abbrev often : ℕ → List ℕ → ℕ
 often v xs = count_by (eqb v) xs
 
@@ -19,7 +19,7 @@ often-cons v x xs = sum_by-cons (λ y. cond (eqb v y) 1 0) x xs
 rising_tail : (x : ℕ) (xs : List ℕ) → IsNonDecreasing (x ∷ xs) → IsNonDecreasing xs
 rising_tail x xs rising = λ i j d before within. rising (suc i) (suc j) d (omega arith) (omega arith)
 
--- what is below the first stands nowhere
+-- A number below the first element doesn't occur in the list.
 none_below : (v x : ℕ) (xs : List ℕ) → IsNonDecreasing (x ∷ xs) → v < x → often v (x ∷ xs) ≡ 0
 none_below v x [] rising below = let here = often-cons v x [] in let other : eqb v x ≡ false = grind (arith, nat_tests) in here ∙ rw other refl
 none_below v x (y ∷ xs) rising below =
@@ -65,7 +65,7 @@ same_by_count (x ∷ xs) (y ∷ ys) up_x up_y same =
 pub sorted_same : (xs ys : List ℕ) → IsNonDecreasing xs → IsNonDecreasing ys → IsPermutation xs ys → xs ≡ ys
 sorted_same xs ys up_x up_y same = same_by_count xs ys up_x up_y (λ v. sym (sum_by-IsPermutation (λ y. cond (eqb v y) 1 0) xs ys same))
 
--- ---- those of a range
+-- ---- the numbers of a range
 
 module _ (xs : List ℕ) (low end : ℕ) where
   abbrev inside : ℕ → Bool

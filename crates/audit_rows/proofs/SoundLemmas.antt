@@ -1,4 +1,4 @@
--- Tables with the same rows as others.
+-- `HaveSameRows` is transitive and symmetric.
 use Rattle.std.proofs.lemmas.List.Sorted.{IsPermutation-sym, IsPermutation-trans}
 use Rattle.table_rows.specs.Tables.{HaveSameRows, Tables}
 

@@ -1,8 +1,9 @@
--- The names of the audit's rules (this project's profile).
+-- The names of the audit rules (this project's profile).
 use Rattle.std.specs.Prelude.{ℕ, List, codes}
 use Rattle.audit_rows.specs.declared.rule.Rule.{Rule}
 use Rattle.audit_rows.specs.declared.rule.Rule.TheVariants.{Products, Lots, Batches, BatchIds, SessionIds, Owners, Files, Words, Remakes, Machines, LotCounters, BlankTwice, BlankLots, OpenedBlanks, Marks, Replies, MarkTwice, ReleasedReplies, ReplyTwice}
 
+-- the printed name of a rule
 abbrev pub name_of : Rule → List ℕ
 name_of Products = codes "products"
 name_of Lots = codes "lots"

@@ -1,4 +1,4 @@
--- The audit's rules: what each says of rows, and which is the first that fails.
+-- The audit rules: the condition of each rule, and the first rule that fails.
 use Rattle.std.specs.Prelude.{◌≡◌, ◌≢◌, ◌≤◌, ℕ, false, List, [], ◌∷◌, ◌++◌, All, AllPairs, IsPermutation, IsTrue, Option, Some, None, bytes_eq, count_by, flat_map, length, map}
 use Rattle.std.specs.List.{AllByRecursion, range_with_len}
 use Rattle.job_facts.specs.Contents.{Entry, IsEntry, IsMark, Mark, is_above, is_of_number}
@@ -12,7 +12,7 @@ use Rattle.audit_rows.specs.Audit.{AreFewOnce, AreOwned}
 use Rattle.audit_rows.specs.declared.rule.Rule.{Rule}
 use Rattle.audit_rows.specs.declared.rule.Rule.TheVariants.{Products, Lots, Batches, BatchIds, SessionIds, Owners, Files, Words, Remakes, Machines, LotCounters, BlankTwice, BlankLots, OpenedBlanks, Marks, Replies, MarkTwice, ReleasedReplies, ReplyTwice}
 
--- what a rule says of rows in order
+-- The rows of `t`, which are sorted, obey the rule.
 abbrev pub Holds : Rule → Tables → Type 0
 Holds Products t = AreProducts t.products
 Holds Lots t = AreLots t.products (lots_of t.lots)
@@ -34,7 +34,7 @@ Holds MarkTwice t = AllPairs (λ (m n : Mark). bytes_eq m.client n.client ≡ fa
 Holds ReleasedReplies t = All (λ (e : Entry). IsTrue (is_above t.marks e)) t.replies
 Holds ReplyTwice t = AllPairs (λ (d e : Entry). is_of_number d e ≡ false) t.replies
 
--- ---- all rules, in the order in which they are tested
+-- ---- all rules, in the order in which they are checked
 
 abbrev pub named_rules : List Rule
 named_rules = Products ∷ Lots ∷ Batches ∷ BatchIds ∷ SessionIds ∷ Owners ∷ []
@@ -51,12 +51,13 @@ reply_rules = Marks ∷ Replies ∷ MarkTwice ∷ ReleasedReplies ∷ ReplyTwice
 abbrev pub rules : List Rule
 rules = named_rules ++ (Files ∷ []) ++ card_rules ++ blank_rules ++ reply_rules
 
--- ---- the first that fails
+-- ---- the first rule that fails
 
+-- All rules of the list `some` hold.
 abbrev pub AllHold : List Rule → Tables → Type 0
 AllHold some t = AllByRecursion (λ r. Holds r t) some
 
--- of these rules it fails, and each before it holds
+-- The rule `rule` fails, and all rules before it in the list `some` hold.
 pub record FailsFirst (some : List Rule) (t : Tables) (rule : Rule) : Type 0 where
   pub before : List Rule
   pub after : List Rule
@@ -64,7 +65,7 @@ pub record FailsFirst (some : List Rule) (t : Tables) (rule : Rule) : Type 0 whe
   pub hold : AllHold before t
   pub fails : ¬ Holds rule t
 
--- none where all of these hold
+-- The value is the first rule of the list that fails, or `None` if all rules hold.
 abbrev pub IsFirstFailing : List Rule → Tables → Option Rule → Type 0
 IsFirstFailing some t None = AllHold some t
 IsFirstFailing some t (Some rule) = FailsFirst some t rule

@@ -1,4 +1,4 @@
-//! The audit over rows in order.
+//! Audits sorted rows, rule by rule.
 ghost use Rattle.std.specs.Prelude.{◌≡◌, ◌≤◌, ◌↔◌, ℕ, List, IfOk, IsTrue, All, count_by};
 ghost use Rattle.job_facts.specs.Sound.{IsName};
 ghost use Rattle.table_rows.specs.Keys.{is_running_on};
@@ -15,7 +15,7 @@ use audit_cards::{has_files, has_remakes, has_words};
 use std::alloc::{AllocError, Global};
 use table_rows::Tables;
 
-// Whether no machine runs two sessions.
+// Returns `true` if no machine has two running sessions.
 fn has_machines(alloc: Global, tables: &Tables) -> Result<bool, AllocError>
     requires { All (λ (s : SessionValue). IsName s.machine) tables.now.sessions }
     ensures { IfOk result (λ once. IsTrue once
@@ -24,7 +24,7 @@ fn has_machines(alloc: Global, tables: &Tables) -> Result<bool, AllocError>
     run_once(alloc, &tables.sessions)
 }
 
-// The first rule that fails of those of words, remakes and machines.
+// Returns the first rule that fails, among those of status words, remakes and machines.
 fn failing_card(alloc: Global, tables: &Tables) -> Result<Option<Rule>, AllocError>
     requires ready { AreReady tables.now }
     requires machines { All (λ (s : SessionValue). IsName s.machine) tables.now.sessions }
@@ -43,7 +43,11 @@ fn failing_card(alloc: Global, tables: &Tables) -> Result<Option<Rule>, AllocErr
     Ok(None)
 }
 
-/// The first rule that rows in order break.
+/// Returns the first rule that the sorted rows break.
+///
+/// # Errors
+///
+/// Returns `AllocError` if an allocation fails.
 pub(crate) fn failing_rule(alloc: Global, tables: &Tables) -> Result<Option<Rule>, AllocError>
     requires { AreSorted tables.now }
     ensures { IfOk result (IsFirstFailing rules tables.now) }

@@ -1,4 +1,4 @@
-//! Blanks, their lots and their sessions.
+//! Checks the blanks, their lots and their sessions.
 ghost use Rattle.std.specs.Prelude.{◌≡◌, ◌≢◌, ◌≤◌, ◌+◌, ◌^◌, ◌&&◌, ◌↔◌, IfOk, IsTrue, All, nat_le};
 ghost use Rattle.std.specs.Prelude.{nat_lt};
 ghost use Rattle.std.specs.Prelude.{AllPairs, IsPermutation, count_by, map};
@@ -17,7 +17,6 @@ use audit_order::lot_for;
 use std::alloc::{AllocError, Global};
 use table_rows::{StoredBlank, StoredLot, StoredSession, Tables};
 
-// The serials of blanks.
 fn blank_serials(alloc: Global, blanks: &[StoredBlank]) -> Result<Vec<u64>, AllocError>
     ensures { IfOk result
         (λ serials. serials.items ≡ map (λ (b : BlankValue). b.serial) blanks.now) }
@@ -25,7 +24,7 @@ fn blank_serials(alloc: Global, blanks: &[StoredBlank]) -> Result<Vec<u64>, Allo
     blanks.iter().map(|blank| blank.serial).collect(alloc)
 }
 
-// Whether no serial stands twice.
+// Returns `true` if no two blanks have the same serial.
 fn are_blanks_once(alloc: Global, blanks: &[StoredBlank]) -> Result<bool, AllocError>
     ensures { IfOk result (λ once. IsTrue once
         ↔ AllPairs (λ (b c : BlankValue). b.serial ≢ c.serial) blanks.now) }
@@ -34,14 +33,14 @@ fn are_blanks_once(alloc: Global, blanks: &[StoredBlank]) -> Result<bool, AllocE
     are_once(alloc, &serials)
 }
 
-// Whether a blank is said to lie in this lot.
+// Returns `true` if the row of `blank` names the lot `lot`.
 fn names(blank: &StoredBlank, lot: &StoredLot) -> bool
     ensures { IsTrue result ↔ (lot.now.lot.name ≡ blank.now.lot) }
 {
     lot.name.as_slice() == blank.lot.as_slice()
 }
 
-// Whether a blank's serial lies in its lot.
+// Returns `true` if the serial of `blank` is in the lot that the row names.
 fn is_audited_blank(tables: &Tables, blank: &StoredBlank) -> bool
     requires { AreReady tables.now }
     ensures { IsTrue result ↔ IsAuditedBlank tables.now blank.now }
@@ -52,7 +51,6 @@ fn is_audited_blank(tables: &Tables, blank: &StoredBlank) -> bool
     }
 }
 
-// Whether the serial of each of these blanks lies in its lot.
 fn are_audited_blanks(tables: &Tables, blanks: &[StoredBlank]) -> bool
     requires { AreReady tables.now }
     ensures { IsTrue result ↔ All (IsAuditedBlank tables.now) blanks.now }
@@ -60,7 +58,7 @@ fn are_audited_blanks(tables: &Tables, blanks: &[StoredBlank]) -> bool
     blanks.iter().all(|blank| is_audited_blank(tables, blank))
 }
 
-// The serials of the blanks that sessions opened.
+// Returns the serials of the blanks that sessions opened.
 fn opened_serials(alloc: Global, blanks: &[StoredBlank]) -> Result<Vec<u64>, AllocError>
     ensures { IfOk result (λ serials. serials.items
         ≡ map (λ (b : BlankValue). b.serial) (opened_rows blanks.now)) }
@@ -72,7 +70,6 @@ fn opened_serials(alloc: Global, blanks: &[StoredBlank]) -> Result<Vec<u64>, All
         .collect(alloc)
 }
 
-// The serials of the discarded blanks.
 fn discarded_serials(alloc: Global, blanks: &[StoredBlank]) -> Result<Vec<u64>, AllocError>
     ensures { IfOk result (λ serials. serials.items
         ≡ map (λ (b : BlankValue). b.serial) (discarded_rows blanks.now)) }
@@ -84,7 +81,6 @@ fn discarded_serials(alloc: Global, blanks: &[StoredBlank]) -> Result<Vec<u64>, 
         .collect(alloc)
 }
 
-// The serials of the sessions.
 fn session_serials(alloc: Global, sessions: &[StoredSession]) -> Result<Vec<u64>, AllocError>
     ensures { IfOk result (λ serials. serials.items
         ≡ map (λ (s : SessionValue). s.serial) sessions.now) }
@@ -92,14 +88,14 @@ fn session_serials(alloc: Global, sessions: &[StoredSession]) -> Result<Vec<u64>
     sessions.iter().map(|session| session.serial).collect(alloc)
 }
 
-// Whether these are the same serials, in one order.
+// Returns `true` if the serials are equal and in the same order.
 fn is_same_list(first: &[u64], second: &[u64]) -> bool
     ensures { IsTrue result ↔ (first.now ≡ second.now) }
 {
     first == second
 }
 
-// Whether these are the same serials.
+// Returns `true` if both lists have the same serials, in any order.
 fn are_same(first: Vec<u64>, second: Vec<u64>) -> Result<bool, AllocError>
     ensures { IfOk result (λ same. IsTrue same
         ↔ IsPermutation first.items second.items) }
@@ -110,7 +106,7 @@ fn are_same(first: Vec<u64>, second: Vec<u64>) -> Result<bool, AllocError>
     Ok(is_same_list(&left, &right))
 }
 
-// Whether the blanks that are not discarded are those of the sessions.
+// Returns `true` if the blanks that aren't discarded are exactly the blanks of the sessions.
 fn are_opened(
     alloc: Global,
     blanks: &[StoredBlank],
@@ -125,7 +121,7 @@ fn are_opened(
     are_same(opened, charged)
 }
 
-// How many of these serials stand from one on, and below another.
+// Returns the number of serials from `low` to `end - 1`.
 fn count_between(serials: &[u64], low: u64, end: u64) -> usize
     requires rising { IsNonDecreasing serials.now }
     requires order { low ≤ end }
@@ -136,7 +132,8 @@ fn count_between(serials: &[u64], low: u64, end: u64) -> usize
     last - first
 }
 
-// Whether a lot counts those of these serials that lie in it.
+// Returns `true` if the counter of `lot` is the number of serials in its range. `serials` are
+// sorted, so that two binary searches find this number.
 fn counts(lot: &StoredLot, serials: &[u64]) -> bool
     requires rising { IsNonDecreasing serials.now }
     requires range { lot.now.lot.first + lot.now.lot.count ≤ 10 ^ 18 }
@@ -147,7 +144,7 @@ fn counts(lot: &StoredLot, serials: &[u64]) -> bool
     lot.discarded == count_between(serials, lot.low_serial, end) as u64
 }
 
-// Whether each lot counts those of these serials that lie in it.
+// Returns `true` if the counters of all lots are right for the discarded blanks `serials`.
 fn count_all(lots: &[StoredLot], serials: &[u64]) -> bool
     requires rising { IsNonDecreasing serials.now }
     requires ranges { All (λ (l : LotValue). l.lot.first + l.lot.count ≤ 10 ^ 18) lots.now }
@@ -162,7 +159,7 @@ fn count_all(lots: &[StoredLot], serials: &[u64]) -> bool
     true
 }
 
-// The serials of the discarded blanks, sorted.
+// Returns the serials of the discarded blanks in ascending order.
 fn sorted_serials(alloc: Global, blanks: &[StoredBlank]) -> Result<Vec<u64>, AllocError>
     ensures rising { IfOk result (λ serials. IsNonDecreasing serials.items) }
     ensures same { IfOk result (λ serials. IsPermutation
@@ -173,7 +170,7 @@ fn sorted_serials(alloc: Global, blanks: &[StoredBlank]) -> Result<Vec<u64>, All
     Ok(serials)
 }
 
-// Whether each lot counts its discarded blanks.
+// Returns `true` if the counter of each lot is the number of its discarded blanks.
 fn count_discarded(
     alloc: Global,
     lots: &[StoredLot],
@@ -188,7 +185,7 @@ fn count_discarded(
     Ok(count_all(lots, &serials))
 }
 
-// Whether each lot of the tables counts its discarded blanks.
+// Returns `true` if the counter of each lot of `tables` is the number of its discarded blanks.
 fn has_counts(alloc: Global, tables: &Tables) -> Result<bool, AllocError>
     requires { AreReady tables.now }
     ensures { IfOk result (λ sound. IsTrue sound ↔ All (IsAuditedLot tables.now) tables.now.lots) }
@@ -196,7 +193,7 @@ fn has_counts(alloc: Global, tables: &Tables) -> Result<bool, AllocError>
     count_discarded(alloc, &tables.lots, &tables.blanks)
 }
 
-// Whether no serial of the tables' blanks stands twice.
+// Returns `true` if no two blanks of `tables` have the same serial.
 fn has_once(alloc: Global, tables: &Tables) -> Result<bool, AllocError>
     ensures { IfOk result (λ once. IsTrue once
         ↔ AllPairs (λ (b c : BlankValue). b.serial ≢ c.serial) tables.now.blanks) }
@@ -204,7 +201,7 @@ fn has_once(alloc: Global, tables: &Tables) -> Result<bool, AllocError>
     are_blanks_once(alloc, &tables.blanks)
 }
 
-// Whether the serial of each of the tables' blanks lies in its lot.
+// Returns `true` if the serial of each blank of `tables` is in the lot that its row names.
 fn has_lots(tables: &Tables) -> bool
     requires { AreReady tables.now }
     ensures { IsTrue result ↔ All (IsAuditedBlank tables.now) tables.now.blanks }
@@ -212,7 +209,8 @@ fn has_lots(tables: &Tables) -> bool
     are_audited_blanks(tables, &tables.blanks)
 }
 
-// Whether the tables' blanks that are not discarded are those of the sessions.
+// Returns `true` if the blanks of `tables` that aren't discarded are exactly the blanks of its
+// sessions.
 fn has_opened(alloc: Global, tables: &Tables) -> Result<bool, AllocError>
     ensures { IfOk result (λ same. IsTrue same
         ↔ IsPermutation (map (λ (b : BlankValue). b.serial) (opened_rows tables.now.blanks))
@@ -221,7 +219,11 @@ fn has_opened(alloc: Global, tables: &Tables) -> Result<bool, AllocError>
     are_opened(alloc, &tables.blanks, &tables.sessions)
 }
 
-/// The first rule that fails of those of blanks.
+/// Returns the first rule that fails, among those of blanks.
+///
+/// # Errors
+///
+/// Returns `AllocError` if an allocation fails.
 pub(crate) fn failing_blank(alloc: Global, tables: &Tables) -> Result<Option<Rule>, AllocError>
     requires { AreReady tables.now }
     ensures { IfOk result (IsFirstFailing blank_rules tables.now) }

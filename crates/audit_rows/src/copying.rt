@@ -1,4 +1,4 @@
-//! Copies of rows.
+//! Copies rows.
 ghost use Rattle.std.specs.Prelude.{◌≡◌, IfOk};
 
 use std::alloc::{AllocError, Global};
@@ -163,7 +163,11 @@ fn copies<T: Copied>(alloc: Global, rows: &[T]) -> Result<Vec<T>, AllocError>
     Ok(copies)
 }
 
-/// The same rows in the same order.
+/// Returns a copy of all rows in the same order.
+///
+/// # Errors
+///
+/// Returns `AllocError` if an allocation fails.
 pub(crate) fn copy_of(alloc: Global, tables: &Tables) -> Result<Tables, AllocError>
     ensures { IfOk result (λ copy. copy ≡ tables.now) }
 {

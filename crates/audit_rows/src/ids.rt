@@ -1,4 +1,4 @@
-//! Ids that are counted up, and rows that name one.
+//! Checks the ids of rows, and the ids of the batches to which rows belong.
 ghost use Rattle.std.specs.Prelude.{◌≡◌, ◌↔◌, ℕ, All, IsTrue, length, map};
 ghost use Rattle.std.specs.List.{range_with_len};
 ghost use Rattle.audit_rows.specs.Audit.{IsIdOf};
@@ -6,11 +6,11 @@ ghost use Rattle.audit_rows.specs.Audit.{IsIdOf};
 use audit_order::Ranged;
 use table_rows::{StoredBatch, StoredSession};
 
-/// Rows with an id.
+/// A row with an id.
 pub(crate) trait Counted {
     ghost id: { Self → ℕ };
 
-    /// The id.
+    /// Returns the id.
     fn id(&self) -> u64
         ensures { result ≡ id self.now };
 }
@@ -31,7 +31,7 @@ impl Counted for StoredSession {
     }
 }
 
-/// Whether the ids begin at 1 and go up by one.
+/// Returns `true` if the ids are 1, 2, .. in this order.
 pub(crate) fn are_counted<T: Counted>(rows: &[T]) -> bool
     ensures { IsTrue result ↔ (map T.id rows.now ≡ range_with_len 1 (length rows.now)) }
 {
@@ -43,14 +43,14 @@ pub(crate) fn are_counted<T: Counted>(rows: &[T]) -> bool
     true
 }
 
-// Whether a number is one of so many ids.
+// Returns `true` if `id` is one of the ids 1 to `count`.
 fn is_id(id: u64, count: usize) -> bool
     ensures { IsTrue result ↔ IsIdOf count id }
 {
     id >= 1 && id <= count as u64
 }
 
-/// Whether each row names one of so many ids.
+/// Returns `true` if every row belongs to one of the batches 1 to `count`.
 pub(crate) fn have_ids<T: Ranged>(rows: &[T], count: usize) -> bool
     ensures { IsTrue result ↔ All (λ row. IsIdOf count (T.number row)) rows.now }
 {

@@ -1,5 +1,5 @@
-//! Whether the rows of the store's tables are those of sound contents, and where not, which rule
-//! fails.
+//! Checks whether the rows of the tables represent sound contents, and which audit rule they break
+//! if they don't.
 #![tactic(auto)]
 
 mod audit;

@@ -1,4 +1,4 @@
-//! Machines, and the sessions that run on them.
+//! Checks the machines of running sessions.
 ghost use Rattle.std.specs.Prelude.{◌≡◌, ◌≤◌, ◌↔◌, ℕ, List, IfOk, IsTrue, All, count_by, filter};
 ghost use Rattle.std.specs.Prelude.{map};
 ghost use Rattle.job_facts.specs.Sound.{IsName};
@@ -12,7 +12,7 @@ use std::alloc::{AllocError, Global};
 use store_data::Name;
 use table_rows::StoredSession;
 
-// The machine of a session.
+// Returns the machine of a session, which has a valid name.
 fn machine_of(session: &StoredSession) -> Name
     requires { IsName session.now.machine }
     ensures { result ≡ session.now.machine }
@@ -20,14 +20,14 @@ fn machine_of(session: &StoredSession) -> Name
     Name::new(&session.machine).unwrap()
 }
 
-// Whether a session runs.
+// Returns `true` if the session is running.
 fn runs(session: &StoredSession) -> bool
     ensures { result ≡ is_running session.now.state }
 {
     matches!(session.state, SessionState::Running)
 }
 
-// The machines of the sessions that run.
+// Returns the machine of each running session.
 fn running_machines(alloc: Global, sessions: &[StoredSession]) -> Result<Vec<Name>, AllocError>
     requires { All (λ (s : SessionValue). IsName s.machine) sessions.now }
     ensures { IfOk result (λ names. names.items ≡ map (λ (s : SessionValue). s.machine)
@@ -42,7 +42,11 @@ fn running_machines(alloc: Global, sessions: &[StoredSession]) -> Result<Vec<Nam
     Ok(names)
 }
 
-/// Whether no machine runs two of these sessions.
+/// Returns `true` if no machine has two running sessions.
+///
+/// # Errors
+///
+/// Returns `AllocError` if an allocation fails.
 pub(crate) fn run_once(alloc: Global, sessions: &[StoredSession]) -> Result<bool, AllocError>
     requires { All (λ (s : SessionValue). IsName s.machine) sessions.now }
     ensures { IfOk result (λ once. IsTrue once

@@ -1,4 +1,4 @@
-//! Products, lots and batches by their names.
+//! Checks the names and values of products and lots.
 ghost use Rattle.std.specs.Prelude.{◌≡◌, ◌↔◌, ◌+◌, ◌&&◌, ◌||◌, IsSome, IsTrue, All, not, bytes_eq};
 ghost use Rattle.std.specs.Prelude.{nat_le};
 ghost use Rattle.store_data.specs.Sequence.{IsProduct};
@@ -13,10 +13,10 @@ use crate::once::{Apart, are_apart};
 use audit_order::{is_name, product_named};
 use table_rows::{StoredBatch, StoredLot, StoredProduct};
 
-/// Serials end below it.
+/// The limit of serials: all serials are below it.
 const END: u64 = 1_000_000_000_000_000_000;
 
-/// Products have names of their own.
+/// Two products are apart if they have different names.
 impl Apart for StoredProduct {
     ghost apart = { λ p q. not (bytes_eq p.code q.code) };
 
@@ -25,7 +25,7 @@ impl Apart for StoredProduct {
     }
 }
 
-/// Batches have names of their own.
+/// Two batches are apart if they have different names.
 impl Apart for StoredBatch {
     ghost apart = { λ b c. not (bytes_eq b.name c.name) };
 
@@ -34,21 +34,21 @@ impl Apart for StoredBatch {
     }
 }
 
-// Whether the serials of a lot end before those of another begin.
+// Returns `true` if the last serial of `lot` is below the first serial of `other`.
 fn ends_before(lot: &StoredLot, other: &StoredLot) -> bool
     ensures { result ≡ nat_le (lot.now.lot.first + lot.now.lot.count) other.now.lot.first }
 {
     lot.low_serial <= other.low_serial && u64::from(lot.amount) <= other.low_serial - lot.low_serial
 }
 
-// Whether two lots have other names.
+// Returns `true` if the two lots have different names.
 fn differ(lot: &StoredLot, other: &StoredLot) -> bool
     ensures { result ≡ not (bytes_eq lot.now.lot.name other.now.lot.name) }
 {
     lot.name.as_slice() != other.name.as_slice()
 }
 
-/// Lots have names and serials of their own.
+/// Two lots are apart if they have different names and share no serial.
 impl Apart for StoredLot {
     ghost apart = { λ l m. not (bytes_eq l.lot.name m.lot.name)
         && (nat_le (l.lot.first + l.lot.count) m.lot.first
@@ -59,21 +59,22 @@ impl Apart for StoredLot {
     }
 }
 
-// Whether a product is in its ranges.
+// Returns `true` if the product has a valid name and its values are in range.
 fn is_product(row: &StoredProduct) -> bool
     ensures { IsTrue result ↔ (IsName row.now.code × IsProduct row.now) }
 {
     is_name(&row.name) && row.max >= 16 && row.low <= 31
 }
 
-// Whether each product is in its ranges.
+// Returns `true` if all products have valid names and their values are in range.
 fn are_in_range(products: &[StoredProduct]) -> bool
     ensures { IsTrue result ↔ All (λ (p : ProductValue). IsName p.code × IsProduct p) products.now }
 {
     products.iter().all(|row| is_product(row))
 }
 
-/// Whether products are few, each in its ranges under a name of its own.
+/// Returns `true` if there are at most 256 products, their values are in range, and no two have the
+/// same name.
 pub(crate) fn are_products(products: &[StoredProduct]) -> bool
     ensures { IsTrue result ↔ AreProducts products.now }
 {
@@ -86,7 +87,7 @@ pub(crate) fn are_products(products: &[StoredProduct]) -> bool
     are_in_range(products)
 }
 
-// Whether there is a product of a lot.
+// Returns `true` if the product of `lot` exists.
 fn has_product(products: &[StoredProduct], lot: &StoredLot) -> bool
     requires { AreProducts products.now }
     ensures { IsTrue result ↔ IsSome (product_named products.now lot.now.lot.product) }
@@ -94,7 +95,7 @@ fn has_product(products: &[StoredProduct], lot: &StoredLot) -> bool
     product_named(products, &lot.product).is_some()
 }
 
-// Whether a lot has a name, and its serials are in range.
+// Returns `true` if the lot has a valid name and its serials are in range.
 fn is_ranged(lot: &StoredLot) -> bool
     ensures { IsTrue result ↔ IsRanged lot.now.lot }
 {
@@ -104,7 +105,7 @@ fn is_ranged(lot: &StoredLot) -> bool
         && lot.low_serial <= END - u64::from(lot.amount)
 }
 
-// Whether a lot is in its ranges.
+// Returns `true` if the values of `lot` are in range and its product exists.
 fn is_lot(products: &[StoredProduct], lot: &StoredLot) -> bool
     requires { AreProducts products.now }
     ensures { IsTrue result ↔ IsLot products.now lot.now.lot }
@@ -115,7 +116,7 @@ fn is_lot(products: &[StoredProduct], lot: &StoredLot) -> bool
     has_product(products, lot)
 }
 
-// Whether each lot is in its ranges.
+// Returns `true` if the values of all lots are in range and their products exist.
 fn are_lots_in_range(products: &[StoredProduct], lots: &[StoredLot]) -> bool
     requires { AreProducts products.now }
     ensures { IsTrue result ↔ All (λ (l : LotValue). IsLot products.now l.lot) lots.now }
@@ -123,7 +124,8 @@ fn are_lots_in_range(products: &[StoredProduct], lots: &[StoredLot]) -> bool
     lots.iter().all(|lot| is_lot(products, lot))
 }
 
-/// Whether lots are few, each in its ranges with a name and serials of its own.
+/// Returns `true` if there are at most 4,096 lots, their values are in range, their products exist,
+/// and no two have the same name or share a serial.
 pub(crate) fn are_lots(products: &[StoredProduct], lots: &[StoredLot]) -> bool
     requires { AreProducts products.now }
     ensures { IsTrue result ↔ AreLots products.now (lots_of lots.now) }

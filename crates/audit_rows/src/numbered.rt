@@ -1,4 +1,4 @@
-//! Names, ids, and the batches that rows name.
+//! Checks names, limits and ids, and the batches to which rows belong.
 ghost use Rattle.std.specs.Prelude.{◌≡◌, ◌↔◌, IsTrue, length, map};
 ghost use Rattle.std.specs.List.{range_with_len};
 ghost use Rattle.job_facts.specs.Sound.{AreLots, AreProducts};
@@ -14,14 +14,15 @@ use crate::once::are_apart;
 use crate::rule::Rule;
 use table_rows::{StoredBatch, StoredGrouping, StoredRecord, StoredSession, Tables};
 
-// Whether batches are few, each with a name of its own.
+// Returns `true` if there are at most 4,096 batches, and no two have the same name. The values of
+// batches are checked with their files.
 fn are_batches(batches: &[StoredBatch]) -> bool
     ensures { IsTrue result ↔ AreFewOnce batches.now }
 {
     batches.len() <= 4096 && are_apart(batches)
 }
 
-// Whether each record, grouping and session is of one of so many batches.
+// Returns `true` if every record, grouping and session belongs to one of the batches 1 to `count`.
 fn are_owned(
     count: usize,
     records: &[StoredRecord],
@@ -39,14 +40,14 @@ fn are_owned(
     have_ids(sessions, count)
 }
 
-// Whether products are within their limits.
+// Returns `true` if the products of `tables` obey their rule.
 fn has_products(tables: &Tables) -> bool
     ensures { IsTrue result ↔ AreProducts tables.now.products }
 {
     are_products(&tables.products)
 }
 
-// Whether lots are within their limits.
+// Returns `true` if the lots of `tables` obey their rule.
 fn has_lots(tables: &Tables) -> bool
     requires { AreProducts tables.now.products }
     ensures { IsTrue result ↔ AreLots tables.now.products (lots_of tables.now.lots) }
@@ -54,14 +55,14 @@ fn has_lots(tables: &Tables) -> bool
     are_lots(&tables.products, &tables.lots)
 }
 
-// Whether batches are within their limits.
+// Returns `true` if the batches of `tables` obey their rule.
 fn has_batches(tables: &Tables) -> bool
     ensures { IsTrue result ↔ AreFewOnce tables.now.batches }
 {
     are_batches(&tables.batches)
 }
 
-// Whether the ids of batches have no gap.
+// Returns `true` if the ids of the batches are 1, 2, ..
 fn has_batch_ids(tables: &Tables) -> bool
     ensures { IsTrue result ↔ (map (λ (b : BatchValue). b.id) tables.now.batches
         ≡ range_with_len 1 (length tables.now.batches)) }
@@ -69,7 +70,7 @@ fn has_batch_ids(tables: &Tables) -> bool
     are_counted(tables.batches.as_slice())
 }
 
-// Whether the ids of sessions have no gap.
+// Returns `true` if the ids of the sessions are 1, 2, ..
 fn has_session_ids(tables: &Tables) -> bool
     ensures { IsTrue result ↔ (map (λ (s : SessionValue). s.id) tables.now.sessions
         ≡ range_with_len 1 (length tables.now.sessions)) }
@@ -77,7 +78,7 @@ fn has_session_ids(tables: &Tables) -> bool
     are_counted(tables.sessions.as_slice())
 }
 
-// Whether each row's batch is there.
+// Returns `true` if every record, grouping and session belongs to a batch of `tables`.
 fn has_owners(tables: &Tables) -> bool
     ensures { IsTrue result ↔ AreOwned (length tables.now.batches) tables.now.records
         tables.now.groupings tables.now.sessions }
@@ -90,7 +91,7 @@ fn has_owners(tables: &Tables) -> bool
     )
 }
 
-/// The first rule that fails of those of names, limits, ids and each row's batch.
+/// Returns the first rule that fails, among those of names, limits, ids and the batches of rows.
 pub(crate) fn failing_name(tables: &Tables) -> Option<Rule>
     ensures { IsFirstFailing named_rules tables.now result }
 {

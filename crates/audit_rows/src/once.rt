@@ -1,4 +1,4 @@
-//! Rows of which no two are alike.
+//! Checks that a list has no two equal items, or no two rows that aren't apart.
 ghost use Rattle.std.specs.Prelude.{◌≡◌, ◌↔◌, Bool, true, false, IfOk, IfSome, IsTrue, All};
 ghost use Rattle.std.specs.Prelude.{AllPairs, None};
 
@@ -6,23 +6,23 @@ use indexmap::IndexSet;
 use std::alloc::{AllocError, Global};
 use std::hash::Hash;
 
-/// Rows of which no two may be alike.
+/// A row that must differ from all other rows of its table.
 pub(crate) trait Apart {
     ghost apart: { Self → Self → Bool };
 
-    /// Whether the two differ enough.
+    /// Returns `true` if the two rows differ enough, such as in their names.
     fn is_apart(&self, other: &Self) -> bool
         ensures { result ≡ apart self.now other.now };
 }
 
-// Whether each of these rows is apart from another.
+// Returns `true` if all `rows` are apart from `other`.
 fn are_apart_from<T: Apart>(rows: &[T], other: &T) -> bool
     ensures { IsTrue result ↔ All (λ row. T.apart row other.now ≡ true) rows.now }
 {
     rows.iter().all(|row| row.is_apart(other))
 }
 
-/// Whether the rows are apart from each other. Each is tested with each.
+/// Returns `true` if every two rows are apart. Compares all pairs, so it takes quadratic time.
 pub(crate) fn are_apart<T: Apart>(rows: &[T]) -> bool
     ensures { IsTrue result ↔ AllPairs (λ x y. T.apart x y ≡ true) rows.now }
 {
@@ -34,7 +34,11 @@ pub(crate) fn are_apart<T: Apart>(rows: &[T]) -> bool
     true
 }
 
-/// The set of these items, if no two of them are equal.
+/// Returns the set of the items, or `None` if two of them are equal.
+///
+/// # Errors
+///
+/// Returns `AllocError` if an allocation fails.
 pub(crate) fn set_of<T: Eq + Hash + Copy + Drop>(
     alloc: Global,
     items: &[T],
@@ -54,7 +58,11 @@ pub(crate) fn set_of<T: Eq + Hash + Copy + Drop>(
     Ok(Some(set))
 }
 
-/// Whether no two of these items are equal.
+/// Returns `true` if no two items are equal.
+///
+/// # Errors
+///
+/// Returns `AllocError` if an allocation fails.
 pub(crate) fn are_once<T: Eq + Hash + Copy + Drop>(
     alloc: Global,
     items: &[T],

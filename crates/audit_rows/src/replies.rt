@@ -1,4 +1,4 @@
-//! Kept replies, and how far clients have released their numbers.
+//! Checks the kept replies and the release marks.
 ghost use Rattle.std.specs.Prelude.{◌≡◌, ◌≤◌, ◌<◌, ◌^◌, ◌⊎◌, ◌↔◌, false, IfOk, IfSome, IsTrue, All};
 ghost use Rattle.std.specs.Prelude.{AllPairs, None, bytes_eq, map};
 ghost use Rattle.job_facts.specs.Contents.{Entry, IsEntry, IsMark, Mark, is_above, is_of_number};
@@ -14,31 +14,30 @@ use std::alloc::{AllocError, Global};
 use store_data::Name;
 use table_rows::{StoredMark, StoredReply, Tables};
 
-/// Numbers end below it.
+/// The limit of request numbers and release marks: all of them are below it.
 const END: u64 = 1_000_000_000_000_000_000;
 
-// Whether a mark is in its ranges.
+// Returns `true` if the client of the release mark is a valid name and the mark is in range.
 fn is_mark(mark: &StoredMark) -> bool
     ensures { IsTrue result ↔ IsMark mark.now }
 {
     is_name(&mark.client) && mark.upto >= 1 && mark.upto < END
 }
 
-// Whether each mark is in its ranges.
 fn are_marks(marks: &[StoredMark]) -> bool
     ensures { IsTrue result ↔ All IsMark marks.now }
 {
     marks.iter().all(|mark| is_mark(mark))
 }
 
-// Whether the status is that of what was accepted, or of a refusal.
+// Returns `true` if the status is the one of an accepted request or of a refusal.
 fn has_status(reply: &StoredReply) -> bool
     ensures { IsTrue result ↔ ((reply.now.status ≡ 200) ⊎ (reply.now.status ≡ 409)) }
 {
     reply.status == 200 || reply.status == 409
 }
 
-// Whether client and number are in their ranges.
+// Returns `true` if the client is a valid name and the request number is in range.
 fn is_numbered(reply: &StoredReply) -> bool
     ensures { IsTrue result ↔ (IsName reply.now.client × (1 ≤ reply.now.number)
         × (reply.now.number < 10 ^ 18)) }
@@ -46,7 +45,7 @@ fn is_numbered(reply: &StoredReply) -> bool
     is_name(&reply.client) && reply.number >= 1 && reply.number < END
 }
 
-// Whether a kept reply is in its ranges.
+// Returns `true` if the client, the request number and the status of a kept reply are in range.
 fn is_entry(reply: &StoredReply) -> bool
     ensures { IsTrue result ↔ IsEntry reply.now }
 {
@@ -56,14 +55,12 @@ fn is_entry(reply: &StoredReply) -> bool
     has_status(reply)
 }
 
-// Whether each kept reply is in its ranges.
 fn are_entries(replies: &[StoredReply]) -> bool
     ensures { IsTrue result ↔ All IsEntry replies.now }
 {
     replies.iter().all(|reply| is_entry(reply))
 }
 
-// The client of a mark.
 fn client_of(mark: &StoredMark) -> Name
     requires { IsName mark.now.client }
     ensures { result ≡ mark.now.client }
@@ -71,7 +68,6 @@ fn client_of(mark: &StoredMark) -> Name
     Name::new(&mark.client).unwrap()
 }
 
-// The clients of marks.
 fn clients_of(alloc: Global, marks: &[StoredMark]) -> Result<Vec<Name>, AllocError>
     requires { All IsMark marks.now }
     ensures { IfOk result (λ names. names.items ≡ map (λ (m : Mark). m.client) marks.now) }
@@ -83,7 +79,6 @@ fn clients_of(alloc: Global, marks: &[StoredMark]) -> Result<Vec<Name>, AllocErr
     Ok(names)
 }
 
-// The client of a kept reply.
 fn asker_of(reply: &StoredReply) -> Name
     requires { IsName reply.now.client }
     ensures { result ≡ reply.now.client }
@@ -91,7 +86,7 @@ fn asker_of(reply: &StoredReply) -> Name
     Name::new(&reply.client).unwrap()
 }
 
-// The number that a reply is kept under, with its client.
+// Returns the client and the request number of a kept reply.
 fn number_of(reply: &StoredReply) -> (Name, u64)
     requires { IsName reply.now.client }
     ensures { result ≡ (reply.now.client, reply.now.number) }
@@ -99,7 +94,6 @@ fn number_of(reply: &StoredReply) -> (Name, u64)
     (asker_of(reply), reply.number)
 }
 
-// The numbers that replies are kept under, with their clients.
 fn numbers_of(alloc: Global, replies: &[StoredReply]) -> Result<Vec<(Name, u64)>, AllocError>
     requires { All IsEntry replies.now }
     ensures { IfOk result (λ numbers. numbers.items
@@ -112,14 +106,14 @@ fn numbers_of(alloc: Global, replies: &[StoredReply]) -> Result<Vec<(Name, u64)>
     Ok(numbers)
 }
 
-// How far the client of a mark has released its numbers.
 fn upto_of(mark: &StoredMark) -> u64
     ensures { result ≡ mark.now.upto }
 {
     mark.upto
 }
 
-// How far a client has released its numbers, by its place among the clients of marks.
+// Returns the release mark of `client`, or 0 if it has released nothing. `clients` are the clients
+// of `marks`, in the same order.
 fn mark_of(marks: &[StoredMark], clients: &IndexSet<Name>, client: &Name) -> u64
     requires { clients.now.keys ≡ map (λ (m : Mark). m.client) marks.now }
     ensures { result ≡ mark_of marks.now client.now }
@@ -130,7 +124,7 @@ fn mark_of(marks: &[StoredMark], clients: &IndexSet<Name>, client: &Name) -> u64
     }
 }
 
-// Whether a reply's number is above its client's release mark.
+// Returns `true` if the request number of `reply` is above the release mark of its client.
 fn is_above(marks: &[StoredMark], clients: &IndexSet<Name>, reply: &StoredReply) -> bool
     requires clients { clients.now.keys ≡ map (λ (m : Mark). m.client) marks.now }
     requires named { IsName reply.now.client }
@@ -139,7 +133,7 @@ fn is_above(marks: &[StoredMark], clients: &IndexSet<Name>, reply: &StoredReply)
     mark_of(marks, clients, &asker_of(reply)) < reply.number
 }
 
-// Whether each number is above its client's release mark.
+// Returns `true` if the request number of each reply is above the release mark of its client.
 fn are_above(marks: &[StoredMark], clients: &IndexSet<Name>, replies: &[StoredReply]) -> bool
     requires clients { clients.now.keys ≡ map (λ (m : Mark). m.client) marks.now }
     requires replies { All IsEntry replies.now }
@@ -153,7 +147,7 @@ fn are_above(marks: &[StoredMark], clients: &IndexSet<Name>, replies: &[StoredRe
     true
 }
 
-// Whether no two replies are kept under one number of one client.
+// Returns `true` if no client has two kept replies with the same request number.
 fn are_kept_once(alloc: Global, replies: &[StoredReply]) -> Result<bool, AllocError>
     requires { All IsEntry replies.now }
     ensures { IfOk result (λ once. IsTrue once
@@ -163,7 +157,7 @@ fn are_kept_once(alloc: Global, replies: &[StoredReply]) -> Result<bool, AllocEr
     are_once(alloc, &numbers)
 }
 
-// The clients of marks, where no client has two.
+// Returns the clients of `marks`, or `None` if a client has two release marks.
 fn marked_clients(alloc: Global, marks: &[StoredMark]) -> Result<Option<IndexSet<Name>>, AllocError>
     requires { All IsMark marks.now }
     ensures keys { IfOk result (λ found. IfSome found
@@ -177,21 +171,19 @@ fn marked_clients(alloc: Global, marks: &[StoredMark]) -> Result<Option<IndexSet
     set_of(alloc, &names)
 }
 
-// Whether each mark of the tables is in its ranges.
 fn has_marks(tables: &Tables) -> bool
     ensures { IsTrue result ↔ All IsMark tables.now.marks }
 {
     are_marks(&tables.marks)
 }
 
-// Whether each kept reply of the tables is in its ranges.
 fn has_entries(tables: &Tables) -> bool
     ensures { IsTrue result ↔ All IsEntry tables.now.replies }
 {
     are_entries(&tables.replies)
 }
 
-// The clients of the tables' marks, where no client has two.
+// Returns the clients of the release marks of `tables`, or `None` if a client has two of them.
 fn clients_in(alloc: Global, tables: &Tables) -> Result<Option<IndexSet<Name>>, AllocError>
     requires { All IsMark tables.now.marks }
     ensures keys { IfOk result (λ found. IfSome found
@@ -204,7 +196,7 @@ fn clients_in(alloc: Global, tables: &Tables) -> Result<Option<IndexSet<Name>>, 
     marked_clients(alloc, &tables.marks)
 }
 
-// Whether the number of each of the tables' replies is above its client's release mark.
+// Returns `true` if the request number of each kept reply is above the release mark of its client.
 fn has_above(tables: &Tables, clients: &IndexSet<Name>) -> bool
     requires clients { clients.now.keys ≡ map (λ (m : Mark). m.client) tables.now.marks }
     requires replies { All IsEntry tables.now.replies }
@@ -214,7 +206,7 @@ fn has_above(tables: &Tables, clients: &IndexSet<Name>) -> bool
     are_above(&tables.marks, clients, &tables.replies)
 }
 
-// Whether no two of the tables' replies are kept under one number of one client.
+// Returns `true` if no client has two kept replies with the same request number in `tables`.
 fn has_kept_once(alloc: Global, tables: &Tables) -> Result<bool, AllocError>
     requires { All IsEntry tables.now.replies }
     ensures { IfOk result (λ once. IsTrue once
@@ -223,7 +215,11 @@ fn has_kept_once(alloc: Global, tables: &Tables) -> Result<bool, AllocError>
     are_kept_once(alloc, &tables.replies)
 }
 
-/// The first rule that fails of those of kept replies and marks.
+/// Returns the first rule that fails, among those of kept replies and release marks.
+///
+/// # Errors
+///
+/// Returns `AllocError` if an allocation fails.
 pub(crate) fn failing_reply(alloc: Global, tables: &Tables) -> Result<Option<Rule>, AllocError>
     ensures { IfOk result (IsFirstFailing reply_rules tables.now) }
 {

@@ -1,54 +1,57 @@
-//! The rules that the audit tests.
+//! The audit rules and their names.
 ghost use Rattle.std.specs.Prelude.{◌≡◌, Some};
 ghost use Rattle.audit_rows.specs.RuleNames.{name_of};
 
 use std::fmt;
 
-/// A rule that the rows of sound contents keep. They stand in the order in which they are tested.
+/// An audit rule: a condition that the rows of sound contents obey. The variants are in the order
+/// in which the rules are checked.
 #[derive(Clone, Copy, Debug, PartialEq, Eq)]
 pub enum Rule {
-    /// Products are few, each in its ranges under a name of its own.
+    /// The products: at most 256, with values in range and distinct names.
     Products,
-    /// Lots are few, each of a product, in its ranges, with a name and serials of its own.
+    /// The lots: at most 4,096, with values in range, existing products, distinct names and
+    /// distinct serials.
     Lots,
-    /// Batches are few, each with a name of its own.
+    /// The batches: at most 4,096, with distinct names.
     Batches,
-    /// The ids of batches go up from 1 by one.
+    /// The ids of batches, which are 1, 2, ..
     BatchIds,
-    /// The ids of sessions go up from 1 by one.
+    /// The ids of sessions, which are 1, 2, ..
     SessionIds,
-    /// Each record, grouping and session is of a batch.
+    /// The batch of each record, grouping and session, which exists.
     Owners,
-    /// Each batch, and its records, groupings and sessions, are as its file and its words say.
+    /// The batches, records, groupings and sessions, which agree with the batch files and the
+    /// status words.
     Files,
-    /// Each word is of a session, and a session's words have the places from 0 up.
+    /// The status words: each has a session, and the places in a session are 0, 1, ..
     Words,
-    /// Remakes are those that the records count.
+    /// The remakes, as many as each record counts, with the turns 1, 2, ..
     Remakes,
-    /// No machine runs two sessions.
+    /// The running sessions, at most one for each machine.
     Machines,
-    /// Each lot counts its discarded blanks.
+    /// The counter of each lot, which is the number of its discarded blanks.
     LotCounters,
-    /// No serial stands twice among the blanks.
+    /// The serials of blanks, which are distinct.
     BlankTwice,
-    /// Each blank lies in its lot.
+    /// The lot of each blank, which contains its serial.
     BlankLots,
-    /// The blanks that are not discarded are those of the sessions.
+    /// The blanks that aren't discarded, which are exactly the blanks of the sessions.
     OpenedBlanks,
-    /// Each mark has a client's name and a number.
+    /// The client and the value of each release mark.
     Marks,
-    /// Each kept reply has a client's name, a number, and the status 200 or 409.
+    /// The client, the request number and the status of each kept reply. The status is 200 or 409.
     Replies,
-    /// No client has two marks.
+    /// The clients of release marks, which are distinct.
     MarkTwice,
-    /// The number of each kept reply is above its client's release mark.
+    /// The request number of each kept reply, which is above the release mark of its client.
     ReleasedReplies,
-    /// No two replies are kept under one number of one client.
+    /// The request numbers of the kept replies of a client, which are distinct.
     ReplyTwice,
 }
 
 impl Rule {
-    /// The name that people read.
+    /// Returns the name of the rule in event lines and in the output of `shopbook check`.
     pub fn name(self) -> &'static str
         ensures { result.now ≡ name_of self }
     {

@@ -1,4 +1,4 @@
-//! Whether rows are those of sound contents, and where not, which rule fails.
+//! Checks whether rows represent sound contents, and finds the audit rule that they break.
 ghost use Rattle.std.specs.Prelude.{◌↔◌, IfOk, IfSome, IsNone, IsTrue};
 ghost use Rattle.job_facts.specs.Contents.{AreSound, Contents};
 ghost use Rattle.image_laws.specs.Image.{image};
@@ -13,9 +13,13 @@ use audit_order::sort_tables;
 use std::alloc::{AllocError, Global};
 use table_rows::Tables;
 
-/// The first rule that the rows, in any order, break: none where they are those of sound contents.
-/// The rows all stay, and are sorted. Time is the rows' bytes, and their number times its
-/// logarithm. Errors: refused memory.
+/// Returns the first audit rule that the rows break, or `None` if they represent sound contents.
+/// The rows can be in any order. They are sorted, and none is lost. Takes time in O(b + n log n)
+/// for n rows with b bytes.
+///
+/// # Errors
+///
+/// Returns `AllocError` if an allocation fails.
 pub fn first_failing(alloc: Global, tables: &mut Tables) -> Result<Option<Rule>, AllocError>
     ensures sound { IfOk result (λ found. IsNone found ↔
         ((c : Contents) × AreSound c × HaveSameRows tables.old (image c))) }
@@ -29,8 +33,12 @@ pub fn first_failing(alloc: Global, tables: &mut Tables) -> Result<Option<Rule>,
     failing_rule(alloc, tables)
 }
 
-/// Whether the rows, in any order, are those of sound contents. They all stay, and are sorted. Time
-/// is the rows' bytes, and their number times its logarithm.
+/// Returns `true` if the rows represent sound contents. The rows can be in any order. They are
+/// sorted, and none is lost. Takes time in O(b + n log n) for n rows with b bytes.
+///
+/// # Errors
+///
+/// Returns `AllocError` if an allocation fails.
 pub fn sort_and_audit(alloc: Global, tables: &mut Tables) -> Result<bool, AllocError>
     ensures exact { IfOk result (λ sound. IsTrue sound ↔
         ((c : Contents) × AreSound c × HaveSameRows tables.old (image c))) }
@@ -40,7 +48,11 @@ pub fn sort_and_audit(alloc: Global, tables: &mut Tables) -> Result<bool, AllocE
     Ok(failing.is_none())
 }
 
-/// The same of rows that stay as they are: a copy is sorted.
+/// Returns `true` if the rows represent sound contents. Leaves `tables` unchanged and sorts a copy.
+///
+/// # Errors
+///
+/// Returns `AllocError` if an allocation fails.
 pub fn is_sound(alloc: Global, tables: &Tables) -> Result<bool, AllocError>
     ensures { IfOk result (λ sound. IsTrue sound ↔
         ((c : Contents) × AreSound c × HaveSameRows tables.now (image c))) }

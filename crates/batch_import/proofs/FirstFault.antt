@@ -1,4 +1,4 @@
--- Rows read one by one give the first fault: the walk gives what the kinds of the rows say.
+-- Proves that reading the rows one by one finds the first fault as the definitions state it.
 use Rattle.std.proofs.Common.{◌≡◌, ℕ, ◌+◌, Bool, true, false, cond, not, ◌&&◌, ◌||◌, ◌==◌, List, [], ◌∷◌, ◌++◌, length, Option, Some, None, Result, Ok, Err, refl, sym, ap, ◌∙◌, arith}
 use Rattle.std.specs.Prelude.{is_none, is_some, nat_le, nat_lt}
 use Rattle.std.specs.List.{before_first, cons_option, filter_map, find}
@@ -21,12 +21,12 @@ use Rattle.batch_import.specs.RowFaults.{PlacedRow, breaks_check, fault_of_row, 
 
 -- ---- one row
 
--- a row is reported with the least kind that it has, or has none and is the row of its values
+-- a row has the fault `least`, or it has no fault and is the row with its values
 abbrev Agrees : Result Row Kind → Option Kind → Values → Type 0
 Agrees (Ok row) least values = (least ≡ None) × (row_of_values values ≡ Some row) × (values.name ≡ Some row.rec)
 Agrees (Err k) least values = least ≡ Some k
 
--- a test, and then more of them
+-- one test, followed by others
 module _ (values : Values) (k : Kind) (least : Option Kind) where
   passes : (sound : Bool) (r : Result Row Kind) → Agrees r least values → Agrees (cond sound r (Err k)) (cond (not sound) (Some k) least) values
   passes true r more = more
@@ -54,18 +54,18 @@ module _ (values : Values) (k : Kind) (least : Option Kind) where
   needs_both (Some x) None f g more = refl
   needs_both (Some x) (Some y) f g more = more x y refl refl
 
--- the rows so far and the names of their records, as the walk has them
+-- the number of the rows so far and the names of their records, as the reader has them
 abbrev so_far : List (List (List ℕ)) → Before
 so_far rows = record { count = length rows; names = record_names rows }
 
--- with a row of a valid name, its record is one of them
+-- a row with a valid name adds its record to the names
 names_more : (rows : List (List (List ℕ))) (fields : List (List ℕ)) (name : List ℕ) → name_of_text (field fields 0) ≡ Some name
     → record_names (rows ++ fields ∷ []) ≡ with_key (record_names rows) name
 names_more rows fields name is =
     ap first_appearances (filter_map-append (λ fields. name_of_text (field fields 0)) rows (fields ∷ []))
     ∙ rw is (fold_push with_key [] (filter_map (λ fields. name_of_text (field fields 0)) rows) name)
 
--- the record check and the limits, once each field stands for a value
+-- the EMV record check and the limits, for a row whose fields are all valid
 in_limits : (check : Bool) (before : Before) (values : Values) (row : Row) → row_of_values values ≡ Some row → values.name ≡ Some row.rec
     → Agrees (as_record check row >>= within_limits before)
     (cond (check && breaks_check row.enc row.coded) (Some kind.NotARecord)
@@ -97,7 +97,7 @@ module _ (check : Bool) (rows : List (List (List ℕ))) (fields : List (List ℕ
       let is : row_of_values values ≡ Some row = rw (n, a, r, t) refl in
       rw (e, c, names_more rows fields name n) (in_limits check (so_far rows) values row is n)))))))
 
--- ---- the rows of a file
+-- ---- rows of a file
 
 abbrev coming : List Row → Option RowFault → Coming
 coming rows fault = record { rows = rows; fault = fault }
@@ -173,6 +173,6 @@ unfolding coming_of_records
 records_agree check [] = refl
 records_agree check (first ∷ rest) = header_agrees check first rest
 
--- what comes of a file is what the walk over its rows gives
+-- reading a file row by row finds its rows and its first row fault
 pub coming_of-file_rows : (check : Bool) (raw : List ℕ) → coming_of check raw ≡ file_rows check (records_of raw)
 coming_of-file_rows check raw = records_agree check (records_of raw)

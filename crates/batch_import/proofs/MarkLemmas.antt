@@ -1,4 +1,4 @@
--- Where field 4 may be more marks, a file without fault is read alike.
+-- Proves that a file without a fault gives the same rows if field 4 may have more values.
 use Rattle.std.proofs.Common.{◌≡◌, ℕ, ◌+◌, Bool, true, false, cond, ◌||◌, List, [], ◌∷◌, ◌++◌, length, Option, Some, None, Result, Ok, Err, refl, sym, ap, ◌∙◌}
 use Rattle.std.specs.Prelude.{bytes_eq, codes, is_none}
 use Rattle.std.specs.List.{find}
@@ -16,7 +16,7 @@ use Rattle.batch_import.specs.Kinds.{row_kinds}
 use Rattle.batch_import.specs.Records.{records_of}
 use Rattle.batch_import.specs.RowFaults.{PlacedRow, fault_of_row, first_fault, header_fault, or_else, placed, row_fault, row_has}
 
--- ---- a row without fault has a mark
+-- ---- a row without a fault has a valid field 4
 
 or_else-none : {A : Type 0} (o more : Option A) → or_else o more ≡ None → (o ≡ None) × (more ≡ None)
 or_else-none None more e = (refl, e)
@@ -26,7 +26,7 @@ pub given-none : (n : ℕ) (o : Option Kind) → fault_of_row n o ≡ None → o
 given-none n None e = refl
 given-none n (Some k) e = absurd (cc)
 
--- no kind is reported: the first of them does not hold, and none of the others is reported
+-- if no fault is found, the first test passes, and the other tests find no fault
 passed : (faulty : Bool) (k : Kind) (least : Option Kind) → cond faulty (Some k) least ≡ None → (faulty ≡ false) × (least ≡ None)
 passed true k least e = absurd (none-some k (sym e))
 passed false k least e = (refl, e)
@@ -39,7 +39,7 @@ there : {A : Type 0} (o : Option A) → is_none o ≡ false → (x : A) × (o �
 there None e = absurd (cc)
 there (Some x) e = (x, refl)
 
--- none of these kinds is reported, so none of them holds
+-- if none of the kinds is found, the row doesn't have kind `k`
 pub none_holds : (has : Kind → Bool) (before after : List Kind) (k : Kind) → find has (before ++ k ∷ after) ≡ None → has k ≡ false
 none_holds has [] after k e = (passed (has k) k (find has after) e).0
 none_holds has (x ∷ before) after k e = none_holds has before after k (passed (has x) x (find has (before ++ k ∷ after)) e).1
@@ -91,7 +91,7 @@ module _ (few many : Marks) (extends : Extends few many) (check : Bool) where
 abbrev by_fault : ℕ → List Row → Option RowFault → Result (List Row) RowFault
 by_fault m rows o = elim o as (λ _. Result (List Row) RowFault) [ Some fault ↦ Err fault | None ↦ planned_rows m rows ]
 
--- a file whose batch is taken has no fault of a row
+-- a file that is a batch has no row fault
 no_fault : (m : ℕ) (rows found : List Row) (o : Option RowFault) → by_fault m rows o ≡ Ok found → o ≡ None
 no_fault m rows found None e = refl
 no_fault m rows found (Some fault) e = absurd (cc)
@@ -101,9 +101,9 @@ batch_alike few many extends p raw rows read =
     let old = coming_under few p.check raw in
     ap (batch_with p.max) (coming_alike few many extends p.check (records_of raw) (no_fault p.max old.rows rows old.fault read)) ∙ read
 
--- ---- the third mark
+-- ---- the third value
 
--- of a first, a second and a third text a field is, only the third is new
+-- a text that is one of the first two valid texts has the same value among all three
 third_is_new : (first second third : Bool) (a b c enc : Enc) → cond first (Some a) (cond second (Some b) None) ≡ Some enc
     → cond first (Some a) (cond second (Some b) (cond third (Some c) None)) ≡ Some enc
 third_is_new true second third a b c enc e = e

@@ -1,4 +1,5 @@
--- The rows of a batch file without a fault are in their ranges, and so is the row of a fault.
+-- Proves that the rows of a batch have values in range, and that the row number of a fault is in
+-- range.
 use Rattle.std.proofs.Common.{◌≡◌, ◌≤◌, ◌<◌, ◌+◌, ◌&&◌, ℕ, Bool, true, List, [], ◌∷◌, ◌++◌, length, length-append, All, Option, Some, None, Result, Ok, Err, refl, sym, ap, ◌∙◌, subst, inl, inr, arith}
 use Rattle.std.specs.Prelude.{nat_le, is_some, IsTrue}
 use Rattle.std.specs.List.{cons_option, enumerate_from, filter_map, find, list_all, position_or_len}
@@ -29,7 +30,7 @@ use Rattle.batch_import.specs.Records.{records_of}
 use Rattle.batch_import.proofs.WalkLemmas.{coming_of-few, planned_some}
 use Rattle.batch_import.proofs.MarkLemmas.{given-none, none_holds}
 
--- a row as it is read: with a name, and with bytes
+-- a row as the reader returns it: it has a valid name, and its AID and grouping are bytes
 pub record IsTyped (row : Row) : Type 0 where
   pub name : IsTrue (is_name row.rec)
   pub aid : IsBytes row.aid
@@ -105,7 +106,7 @@ sent_ranged t v is = at (sent_of t) refl is
 
 -- ---- rows
 
--- what a row is made of
+-- the parts of a row are its valid fields
 parts : (name aid : Option (List ℕ)) (rank : Option ℕ) (enc : Option Enc) (tol : Option Bool) (coded : Option (List ℕ)) (row : Row)
     → row_with name aid rank enc tol coded ≡ Some row → (name ≡ Some row.rec) × (aid ≡ Some row.aid) × (rank ≡ Some row.rank) × (coded ≡ Some row.coded)
 parts (Some name) (Some aid) (Some rank) (Some enc) (Some tol) (Some coded) row is =
@@ -158,7 +159,7 @@ coming_typed marks check (first ∷ rest) = at (header_fault first)
         let rows = placed marks [] rest in
         given_typed _ (All-take GivesTyped (position_or_len (λ row. is_some (row_fault check row)) rows) rows (placed_typed marks [] rest))
 
--- ---- a batch
+-- ---- batches
 
 abbrev by_fault : ℕ → List Row → Option RowFault → Result (List Row) RowFault
 by_fault m rows o = elim o as (λ _. Result (List Row) RowFault) [ Some fault ↦ Err fault | None ↦ planned_rows m rows ]
@@ -171,7 +172,7 @@ planned_same m (row ∷ more) found is = at (first_record_fault m (records_of_ro
     at (Some fault) is = absurd (cc)
     at None is = cc
 
--- its rows are typed, and in their ranges
+-- the rows of a batch are typed, and their values are in range
 pub batch_typed : (p : Product) (raw : List ℕ) (rows : List Row) → batch_of p raw ≡ Ok rows → All IsTyped rows × AreBatchRows rows
 unfolding batch_of
 batch_typed p raw rows is = at (coming_of p.check raw).fault is
@@ -190,13 +191,13 @@ batch_typed p raw rows is = at (coming_of p.check raw).fault is
           },
         )
 
--- ---- the row of a fault
+-- ---- the row number of a fault
 
 fault_row : (n : ℕ) (o : Option Kind) (fault : RowFault) → fault_of_row n o ≡ Some fault → fault.row ≡ n
 fault_row n None fault is = absurd (none-some fault is)
 fault_row n (Some k) fault is = sym (ap (λ (f : RowFault). f.row) (same_Some _ fault is))
 
--- behind a row without a fault there is room for another
+-- there are fewer than 4,096 rows before a row without a fault
 room : (check : Bool) (row : PlacedRow) → row_fault check row ≡ None → length row.before < 4096
 room check row none =
     let before = kind.NotSixFields ∷ kind.Header ∷ kind.RecordName ∷ kind.Aid ∷ kind.Rank ∷ kind.Mark ∷ kind.Grouping ∷ kind.NotARecord ∷ [] in
@@ -225,7 +226,7 @@ coming_fault marks check (first ∷ rest) fault is = at (header_fault first) ref
     at (Some x) own is = omega (arith, fault_row 1 _ fault (own ∙ is))
     at None own is = placed_fault marks check [] rest fault (omega arith) is
 
--- the fault of a record is reported with a row of it
+-- the fault of a record has the number of one of its rows
 group_row : (m : ℕ) (groups : List (List (ℕ × Row))) (fault : RowFault) → All (λ group. first_number group ≤ 4098) groups
     → first_fault (group_fault m) groups ≡ Some fault → fault.row ≤ 4098
 group_row m [] fault each is = absurd (none-some fault is)
@@ -256,7 +257,7 @@ planned_fault m (row ∷ more) fault few is = at (first_fault (group_fault m) (r
     at None own is = absurd (cc)
     at (Some x) own is = let same : x ≡ fault = cc in group_row m (records_of_rows (row ∷ more)) fault (numbers_small (row ∷ more) few) (own ∙ ap Some same)
 
--- a fault is reported with one of the first 4,098 rows
+-- the row number of a fault is at most 4,098
 pub batch_fault_row : (p : Product) (raw : List ℕ) (fault : RowFault) → batch_of p raw ≡ Err fault → fault.row ≤ 4098
 unfolding batch_of
 batch_fault_row p raw fault is = at (coming_of p.check raw).fault refl is

@@ -1,4 +1,4 @@
--- The records of a batch without a fault have none.
+-- Proves that the records of a batch have no faults.
 use Rattle.std.proofs.Common.{◌≡◌, ℕ, ◌+◌, Bool, true, false, cond, ◌||◌, List, [], ◌∷◌, map, All, Option, Some, None, Result, Ok, Err, inl, inr, refl, sym, ap, subst, ◌∙◌}
 use Rattle.std.specs.Prelude.{bytes_eq, option_and_then}
 use Rattle.std.specs.List.{enumerate_from, list_any}
@@ -19,7 +19,7 @@ use Rattle.batch_import.specs.Batch.{batch_of, first_record_fault, group_fault, 
 use Rattle.batch_import.specs.SoundRecords.{AreSoundRecords}
 use Rattle.batch_import.specs.declared.fault.RowFault.{RowFault}
 
--- none is the fault of the first, and of none behind
+-- if neither alternative has a value, both are `None`
 or_else-None : {A : Type 0} (o u : Option A) → or_else o u ≡ None → (o ≡ None) × (u ≡ None)
 or_else-None None u e = (refl, e)
 or_else-None (Some x) u e = absurd (none-some x (sym e))
@@ -31,7 +31,7 @@ no_group_fault m (group ∷ more) none =
     let both = or_else-None (group_fault m group) (first_record_fault m more) none in
     All-cons (λ g. group_fault m g ≡ None) group more both.0 (no_group_fault m more both.1)
 
--- a fault that tests find is none of memory
+-- a fault that the tests find isn't out of memory
 fault_by_tests : (marks twice blocks : Bool) → first_of marks twice blocks ≡ Some Memory → ⊥
 fault_by_tests true twice blocks e = cc
 fault_by_tests false true blocks e = cc
@@ -60,7 +60,7 @@ planned m (row ∷ more) found e = unless (first_record_fault m (records_of_rows
 abbrev by_fault : ℕ → List Row → Option RowFault → Result (List Row) RowFault
 by_fault m rows o = elim o as (λ _. Result (List Row) RowFault) [ Some fault ↦ Err fault | None ↦ planned_rows m rows ]
 
--- the rows that a batch file is read to have no fault of a record
+-- the rows of a batch are the rows of its file, and no record has a fault
 planned_of : (p : Product) (raw : List ℕ) (rows : List Row) → batch_of p raw ≡ Ok rows → (rows ≡ (coming_of p.check raw).rows) × (first_record_fault p.max (records_of_rows rows) ≡ None)
 unfolding batch_of
 planned_of p raw rows read = at (coming_of p.check raw).fault read
@@ -80,13 +80,13 @@ by_test : (b : Bool) (e : ℕ × Row) (items : List (ℕ × Row)) (rows : List R
 by_test true e items rows same = ap (λ (l : List Row). e.1 ∷ l) same
 by_test false e items rows same = same
 
--- the numbered rows of a record, without their numbers
+-- the numbered rows of a record without their numbers are the rows of this record
 numbered_rows : (n : ℕ) (rows : List Row) (r : List ℕ) → map (λ (e : ℕ × Row). e.1) (with_the_key (λ (e : ℕ × Row). e.1.rec) (enumerate_from n rows) r) ≡ rows_named rows r
 numbered_rows n [] r = refl
 numbered_rows n (row ∷ rows) r =
     by_test (bytes_eq row.rec r) (n, row) (with_the_key (λ (e : ℕ × Row). e.1.rec) (enumerate_from (n + 1) rows) r) (rows_named rows r) (numbered_rows (n + 1) rows r)
 
--- what holds of each name holds of one among them
+-- a property of all names is true of a name that is among them
 named_in : (P : List ℕ → Type 0) (names : List (List ℕ)) (r : List ℕ) → All P names → list_any (bytes_eq r) names ≡ true → P r
 named_in P [] r each e = absurd (false≢true e)
 named_in P (n ∷ names) r each e = elim (cases_Bool (bytes_eq r n)) [
@@ -111,13 +111,13 @@ no_row_sound : (m : ℕ) → record_fault m [] ≡ None
 unfolding record_fault summaries_fault grouped
 no_row_sound m = refl
 
--- also where the name is that of no record
+-- the rows with the name `r` have no fault, even if no record has this name
 record_sound : (m : ℕ) (rows : List Row) (r : List ℕ) → first_record_fault m (records_of_rows rows) ≡ None → record_fault m (rows_named rows r) ≡ None
 record_sound m rows r none = elim (cases_Bool (list_any (bytes_eq r) (map (λ (row : Row). row.rec) rows))) [
   | inl there ↦ record_there m rows r none (list_any-first_appearances r [] (map (λ (row : Row). row.rec) rows) ∙ there)
   | inr missing ↦ subst (λ own. record_fault m own ≡ None) (sym (with_the_key-none (λ (row : Row). row.rec) rows r missing)) (no_row_sound m)
 ]
 
--- each record of a batch file that was read has no fault
+-- no record of a batch has a fault
 pub records_sound : (p : Product) (raw : List ℕ) (rows : List Row) → batch_of p raw ≡ Ok rows → AreSoundRecords p.max rows
 records_sound p raw rows read = λ name. record_sound p.max rows name (planned_of p raw rows read).1

@@ -1,5 +1,5 @@
--- The first record with too many fields, found by what each byte ends, is one of the records of the
--- text.
+-- Proves that the first CSV record with too many fields, which is found from the unit that each
+-- byte ends, is one of the CSV records of the text.
 use Rattle.std.proofs.Common.{◌≡◌, ◌≤◌, ◌<◌, ◌+◌, ℕ, Bool, true, false, List, [], ◌∷◌, ◌++◌, length, slice_get, Option, Some, None, refl, sym, ap, ◌∙◌, arith, add-one, drop, subst, inl, inr}
 use Rattle.std.specs.Prelude.{◌⊎◌, ◌==◌, IfSome, nat_lt, slice_index, if◌then◌else◌}
 use Rattle.std.proofs.lemmas.Bool.{cases_Bool, cond_both, ltb-true, ne_eqb}
@@ -22,9 +22,9 @@ use Rattle.batch_import.specs.declared.fault.Kind.TheVariants as kind
 use Rattle.batch_import.specs.declared.wide.Ends.{Ends}
 use Rattle.batch_import.proofs.RecordLemmas.{between-step, dropped, records_after-next, records_of-start}
 
--- ---- a record that has begun ends, with more fields than have ended in it
+-- ---- a CSV record that has begun ends, and it has more fields than have ended so far
 
--- a state in a field, or behind its quotes
+-- a state in a field, or after the closing quote of a field
 abbrev is_inside : State → Bool
 is_inside st.StartField = true
 is_inside st.InField = true
@@ -35,7 +35,7 @@ is_inside st.StartRecord = false
 is_inside st.InComment = false
 is_inside st.AfterCr = false
 
--- a step ends the record, or stands in a field then
+-- a step ends the CSV record, or leads to a state in a field
 abbrev StaysInside : State × Action → Type 0
 StaysInside r = is_end r.1 ≡ false → is_inside r.0 ≡ true
 
@@ -57,7 +57,7 @@ inside-step st.StartRecord c inside = absurd (cc)
 inside-step st.InComment c inside = absurd (cc)
 inside-step st.AfterCr c inside = absurd (cc)
 
--- behind a field that ends another begins
+-- after a field that ends, another one begins
 abbrev BeginsField : State × Action → Type 0
 BeginsField r = r.1 ≡ act.EndField → is_inside r.0 ≡ true
 
@@ -82,7 +82,7 @@ field-step st.AfterQuote c = cond_both (c == default_config.quote) _ _ BeginsFie
 field-step st.InComment c = cond_both (c == line_feed) _ _ BeginsField (λ _ e. cc) (λ _ e. cc)
 field-step st.AfterCr c = cond_both (c == line_feed) _ _ BeginsField (λ _ e. cc) (λ _. begins-record c)
 
--- the record that is found, with more fields than k
+-- `o` is a CSV record with more than `k` fields
 abbrev IsLonger : ℕ → Option Read → Type 0
 IsLonger k o = (p : Read) × (o ≡ Some p) × (k < length p.0)
 
@@ -114,12 +114,12 @@ ends-longer s fields field (c ∷ rest) inside =
     at (s, act.Skip) stays more = more s fields field (stays refl)
     at (s, act.Copy) stays more = more s fields (field ++ (c ∷ [])) (stays refl)
 
--- ---- the records of a text from the middle of one
+-- ---- CSV records of a text from the middle of one
 
 abbrev from_inside : State → List (List ℕ) → List ℕ → List ℕ → List (List (List ℕ))
 from_inside s fields field xs = records_next records_after (next_record default_config s fields field xs)
 
--- where so many fields have ended in the record behind so many
+-- after `records` CSV records, `count` fields of the next one have ended
 abbrev Stands : List (List (List ℕ)) → ℕ → ℕ → State → List (List ℕ) → List ℕ → List ℕ → Type 0
 Stands rows records count s fields field xs =
     (length fields ≡ count) × (1 ≤ count → is_inside s ≡ true) × (drop records rows ≡ from_inside s fields field xs)
@@ -162,7 +162,7 @@ wide-there rows s records count fields field (c ∷ rest) n (counted, begun, is)
         ended (inr few) found =
             more s records (count + 1) (fields ++ (field ∷ [])) [] (longer, (λ e. begins refl), is) (rw few at found)
 
--- what is found in a file is one of its records
+-- the index found in a file points to a CSV record with too many fields
 pub wide-is : (raw : List ℕ) (o : Option ℕ) → o ≡ wide_after st.StartRecord 0 0 (strip_bom raw) → IfSome o (IsWideAt (records_of raw))
 wide-is raw None found = tt
 wide-is raw (Some n) found =
@@ -179,13 +179,13 @@ unfolding wide_after
 byte-on text i records fields s now ended inside stands ends =
     ap (wide_after s records fields) (drop_more text i 0 inside) ∙ rw (stands, ends) refl
 
--- ---- the records to come
+-- ---- CSV records to come
 
 pub wide-left : (before : Option ℕ) (rows : Records) (left : Option Records) → left ≡ Some rows → IfSome before (IsWideAt rows) → IfSome before (HasWideAt left)
 wide-left None rows left is wide = tt
 wide-left (Some n) rows left is wide = (rows, is, wide)
 
--- behind a record there is one fewer before it
+-- after reading a CSV record, one fewer is before the wide one
 pub wide-on : (before after : Option ℕ) (left : Option Records) (rest : Records) (fields : List (List ℕ)) → IfSome after (λ n. before ≡ Some (n + 1))
     → IfSome before (HasWideAt left) → left ≡ Some (fields ∷ rest) → IfSome after (HasWideAt (Some rest))
 wide-on before None left rest fields fewer wide is = tt
@@ -195,7 +195,7 @@ wide-on before (Some n) left rest fields fewer wide is =
     let behind : slice_get (fields ∷ rest) (n + 1) ≡ slice_get rest n = rw (add-one) refl in
     (rest, refl, (found, sym behind ∙ subst (λ (r : Records). slice_get r (n + 1) ≡ Some found) same at, long))
 
--- the fault of a record that has too many fields
+-- the fault of a CSV record with too many fields
 pub wide-row : (check : Bool) (before : Before) (left : Option Records) (e : ImportFault) → HasWideAt left 0
     → e ≡ fault.At (record { row = before.count + 2; kind = kind.NotSixFields }) → HasFault (data_rows check before) left e
 unfolding data_rows row_of

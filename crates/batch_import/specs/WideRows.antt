@@ -1,4 +1,5 @@
--- A step on the way: the first record of a file that has too many fields, found without its fields.
+-- Defines the first CSV record of a file with too many fields, without the contents of the fields
+-- (helper definitions).
 use Rattle.std.specs.Prelude.{◌≡◌, ◌<◌, ◌+◌, ℕ, List, [], ◌∷◌, length, nat_lt, slice_get, Option, Some, None, if◌then◌else◌}
 use Rattle.csv.specs.Machine.{step}
 use Rattle.csv.specs.Reading.{default_config}
@@ -11,15 +12,15 @@ use Rattle.batch_import.specs.declared.wide.Ends.TheVariants as ends
 use Rattle.batch_import.specs.declared.wide.Place.{Place}
 use Rattle.batch_import.specs.declared.wide.Place.TheVariants as place
 
--- behind so many records comes one that has more than six fields
+-- the CSV record with index `n` has more than six fields
 abbrev pub IsWideAt : List (List (List ℕ)) → ℕ → Type 0
 IsWideAt rows n = (fields : List (List ℕ)) × (slice_get rows n ≡ Some fields) × (6 < length fields)
 
--- the same of records to come, where memory was not refused
+-- no allocation has failed, and the CSV record to come with index `n` has more than six fields
 abbrev pub HasWideAt : Option (List (List (List ℕ))) → ℕ → Type 0
 HasWideAt left n = (rows : List (List (List ℕ))) × (left ≡ Some rows) × IsWideAt rows n
 
--- a place as a state of the machine by which `csv` reads
+-- the state of the CSV reader for a place
 abbrev pub state_of : Place → State
 state_of place.Between = st.StartRecord
 state_of place.AfterCr = st.AfterCr
@@ -28,21 +29,21 @@ state_of place.InField = st.InField
 state_of place.InQuotes = st.InQuoted
 state_of place.AfterQuote = st.AfterQuote
 
--- what a byte with this action ends
+-- the unit that a byte with this action ends
 abbrev pub ends_of : Action → Ends
 ends_of act.EndField = ends.Field
 ends_of act.EndRecord = ends.Record
 ends_of act.Skip = ends.Nothing
 ends_of act.Copy = ends.Nothing
 
--- what is found behind a byte, by what it ended: so many records, and so many fields of the record
--- at hand
+-- the result after a byte that ended `ends`; before the byte, `records` CSV records and `fields`
+-- fields of the current one had ended
 abbrev pub found_after : Ends → ℕ → ℕ → (ℕ → ℕ → Option ℕ) → Option ℕ
 found_after ends.Nothing records fields more = more records fields
 found_after ends.Field records fields more = if nat_lt 4 fields then Some records else more records (fields + 1)
 found_after ends.Record records fields more = more (records + 1) 0
 
--- how many records come before the first that has more than six fields, from this state on
+-- the number of CSV records before the first one with more than six fields, from the state `s` on
 unfoldable pub wide_after : State → ℕ → ℕ → List ℕ → Option ℕ
 wide_after s records fields [] = None
 wide_after s records fields (c ∷ rest) =

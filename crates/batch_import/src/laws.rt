@@ -1,13 +1,13 @@
-//! Laws of the definitions, for crates above: who calls the function has its law.
+//! Lemmas about the definitions. A caller of the function gets its contract as a fact.
 ghost use Rattle.std.specs.Prelude.{◌≡◌, ℕ, List, Ok};
 ghost use Rattle.store_data.specs.declared.row.Product.{Product as ProductValue};
 ghost use Rattle.store_data.specs.declared.row.Row.{Row as RowValue};
 ghost use Rattle.batch_import.specs.Batch.{batch_of, batch_under};
 ghost use Rattle.batch_import.specs.Fields.{Extends, Marks, two_marks};
 
-/// Where field 4 may be more marks than before, a file that had no fault has none, and gives the
-/// same rows; so does a file from before there was a third mark (this project's profile). The
-/// function does nothing.
+/// Lemma: if more texts become valid values of field 4, a batch file without a fault still has no
+/// fault, and its rows are the same. This applies to files from before `enc` could be `2` (this
+/// project's profile).
 pub fn more_marks_read_alike()
     ensures more { (few many : Marks) → Extends few many
         → (p : ProductValue) (raw : List ℕ) (rows : List RowValue)

@@ -1,5 +1,6 @@
-//! The first row of a file that has too many fields, found before it is read: the crate `csv` takes
-//! eight bytes for each field of a row, and as much twice more for each of the first row.
+//! Finds the first row with too many fields before the crate `csv` reads it. `csv` allocates eight
+//! bytes for each field of a row, and another sixteen for each field of the first row. A row with
+//! millions of commas therefore needs a lot of memory.
 ghost use Rattle.std.specs.Prelude.{◌≡◌, ◌≤◌, IfSome, length};
 ghost use Rattle.csv.specs.Machine.{in_field, start_field, step};
 ghost use Rattle.csv.specs.Reading.{default_config, strip_bom};
@@ -7,30 +8,33 @@ ghost use Rattle.csv.specs.declared.parser.State.TheVariants as st;
 ghost use Rattle.batch_import.specs.Records.{records_of};
 ghost use Rattle.batch_import.specs.WideRows.{IsWideAt, ends_of, state_of, wide_after};
 
-/// More commas than a sound batch has: five in its header and in each of 4,096 rows.
+/// The maximum number of commas of a valid batch file: five in the header and in each of 4,096
+/// rows.
 const MOST_COMMAS: usize = 5 * 4097;
 
-/// Bytes of a text that are counted in one byte: a multiple of those that are compared at once.
+/// The number of bytes in which a `u8` counts commas. It is a multiple of the number of bytes that
+/// are compared at once.
 const PART: usize = 224;
 
-// Where the next byte stands (RFC 4180).
+// The position of the next byte in the CSV grammar (RFC 4180).
 #[derive(Clone, Copy)]
 enum Place {
-    // Between two records.
+    // Between two CSV records.
     Between,
-    // The same, behind a CR that ended one.
+    // Between two CSV records, after a CR that ended one.
     AfterCr,
-    // A field's first byte.
+    // At the first byte of a field.
     FieldStart,
-    // In a field, or behind it.
+    // In a field that isn't quoted, or after the closing quote of a quoted field.
     InField,
-    // In a field in quotes.
+    // In a quoted field.
     InQuotes,
-    // Behind a quote in such a field.
+    // After a quote in a quoted field, which either closes the field or is the first of a doubled
+    // quote.
     AfterQuote,
 }
 
-// What a byte ends.
+// The unit that a byte ends.
 #[derive(Clone, Copy)]
 enum Ends {
     Nothing,
@@ -38,8 +42,9 @@ enum Ends {
     Record,
 }
 
-/// How many records of the file `raw` come before the first with more than six fields, where one
-/// was looked for and found: in files that have more commas than a sound batch. It takes no memory.
+/// Returns the number of CSV records before the first one with more than six fields. Only a file
+/// with more commas than any valid batch file is searched; for all other files the result is
+/// `None`. Allocates nothing.
 pub fn before_wide(raw: &[u8]) -> Option<usize>
     ensures { IfSome result (IsWideAt (records_of raw.now)) }
 {
@@ -50,7 +55,7 @@ pub fn before_wide(raw: &[u8]) -> Option<usize>
     first_wide(text)
 }
 
-// The file without the byte order mark that it may begin with.
+// Returns the file without a leading byte order mark.
 #[tactic(auto, unfolding(csv::specs::Reading::strip_bom))]
 fn without_mark(raw: &[u8]) -> &[u8]
     ensures { result.now ≡ strip_bom raw.now }
@@ -69,7 +74,8 @@ fn commas(text: &[u8]) -> usize {
     commas
 }
 
-// Those of a short text, in one byte: so sixteen are compared at once.
+// Counts the commas of a short text. The counter is a `u8`, so that sixteen bytes are compared at
+// once.
 fn commas_of(part: &[u8]) -> u8
     requires { length part.now ≤ 255 }
     ensures { result ≤ length part.now }
@@ -81,7 +87,7 @@ fn commas_of(part: &[u8]) -> u8
     commas
 }
 
-// How many records come before the first with more than six fields.
+// Returns the number of CSV records before the first one with more than six fields.
 fn first_wide(text: &[u8]) -> Option<usize>
     ensures { result ≡ wide_after st.StartRecord 0 0 text.now }
 {
@@ -109,7 +115,7 @@ fn first_wide(text: &[u8]) -> Option<usize>
     None
 }
 
-// What a byte does.
+// Returns the position after `byte`, and the unit that `byte` ends.
 fn step(place: Place, byte: u8) -> (Place, Ends)
     ensures place { state_of result.0 ≡ (step default_config (state_of place) byte).0 }
     ensures ends { result.1 ≡ ends_of (step default_config (state_of place) byte).1 }

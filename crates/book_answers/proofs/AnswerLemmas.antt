@@ -1,4 +1,4 @@
--- What is printed of an answer.
+-- Lemmas about printing the output of a subcommand.
 use Rattle.std.proofs.Common.{◌≡◌, ◌∙◌, ℕ, List, Option, Ok, Err, inr, refl, subst}
 use Rattle.std.specs.Io.KnownBytes.{Appends}
 use Rattle.text_io.specs.Written.{AppendsBeginning}

@@ -1,4 +1,4 @@
--- What the words of `shopbook` ask of a file, answered: what is printed, and how the run ends.
+-- The subcommands of `shopbook`: their output, and the outcomes of their runs.
 use Rattle.std.specs.Prelude.{◌≡◌, ◌⊎◌, ℕ, Bool, true, false, List, [], Option, Some, None, Result, Ok, Err}
 use Rattle.text_io.specs.Written.{Writes}
 use Rattle.text_io.specs.declared.writing.WriteFailed.{WriteFailed}
@@ -21,21 +21,23 @@ use Rattle.book_sheet.specs.Sheet.{sheet_of}
 use Rattle.book_arguments.specs.declared.words.Ask.{Ask}
 use Rattle.book_arguments.specs.declared.words.Ask.TheVariants.{Check, Lists, Cards, Blanks, Machines, Sheet}
 use Rattle.book_arguments.specs.declared.words.BookWords.{BookWords}
+use Rattle.book_file.specs.Found.{HasVerdict}
 use Rattle.book_file.specs.declared.book.Book.{Book}
 use Rattle.book_answers.specs.declared.answer.Answer.{Answer}
+use Rattle.book_answers.specs.declared.from_file.Printed.{Printed}
 
 abbrev pub form_of : Bool → Form
 form_of true = Json
 form_of false = Columns
 
--- ---- of rows of sound contents
+-- ---- sound rows
 
--- a text that is there; else this is missing
+-- the text, or the refusal `missing` if there is no text
 abbrev pub text_or : Refusal → Option (List ℕ) → Result (List ℕ) Refusal
 text_or missing (Some text) = Ok text
 text_or missing None = Err missing
 
--- a product or a batch may be missing
+-- the output for sound rows, or the refusal if the batch or the product doesn't exist
 abbrev pub sound_text : Form → Version → Tables → Ask → Result (List ℕ) Refusal
 sound_text form version t Check = Ok (check_text form (number_of version) None t)
 sound_text form version t Lists = Ok (list_text form t)
@@ -52,17 +54,17 @@ abbrev pub end_of_text : Result (List ℕ) Refusal → End
 end_of_text (Ok text) = Done
 end_of_text (Err missing) = NotReported missing
 
--- the answer is this text, or says what is missing
+-- The answer `a` has the text `found`, or its outcome is the refusal.
 abbrev pub Gives : Result (List ℕ) Refusal → Answer → Type 0
 Gives found a = (a.text.items ≡ text_or_none found) × (a.end ≡ end_of_text found)
 
--- ---- of other rows
+-- ---- other rows
 
 abbrev pub damaged_text : Form → Book → Ask → Rule → List ℕ
 damaged_text form book Check rule = check_text form (number_of book.version) (Some rule) book.tables
 damaged_text form book _ rule = []
 
--- ---- of both
+-- ---- all rows
 
 abbrev pub text_by : Form → Book → Ask → Option Rule → List ℕ
 text_by form book ask None = text_or_none (sound_text form book.version book.tables ask)
@@ -72,25 +74,33 @@ abbrev pub end_by : Form → Book → Ask → Option Rule → End
 end_by form book ask None = end_of_text (sound_text form book.version book.tables ask)
 end_by form book ask (Some rule) = Damaged
 
--- the text, and how the run ends where it is written
+-- the output of the subcommand
 abbrev pub text_of : BookWords → Book → List ℕ
 text_of w book = text_by (form_of w.json) book w.ask book.failing
 
+-- the outcome of the run if the output is written
 abbrev pub end_of : BookWords → Book → End
 end_of w book = end_by (form_of w.json) book w.ask book.failing
 
 abbrev pub IsAnswer : BookWords → Book → Answer → Type 0
 IsAnswer w book a = (a.text.items ≡ text_of w book) × (a.end ≡ end_of w book)
 
--- ---- printed
+-- ---- printing
 
--- a write that fails is the end
+-- the outcome `end`, or `Unwritten` if the write failed
 abbrev pub end_written : End → Result (Unit {0}) WriteFailed → End
 end_written end (Ok u) = end
 end_written end (Err e) = Unwritten
 
--- memory was refused and nothing was written, or the answer was
+-- An allocation failed and nothing is written, or the output is written, or only a prefix of it
+-- because the writer failed.
 abbrev pub Prints : BookWords → Book → Option (List ℕ) → Option (List ℕ) → End → Type 0
 Prints w book before after end =
     ((end ≡ Memory) × (after ≡ before))
     ⊎ ((written : Result (Unit {0}) WriteFailed) × Writes before after (text_of w book) written × (end ≡ end_written (end_of w book) written))
+
+-- the reply of some book with its verdict is printed, and `printed` names the rule that the book
+-- breaks
+abbrev pub PrintsFile : BookWords → Option (List ℕ) → Option (List ℕ) → Printed → Type 0
+PrintsFile w before after printed =
+    (book : Book) × HasVerdict book.tables book.failing × (printed.failing ≡ book.failing) × Prints w book before after printed.end

@@ -1,4 +1,4 @@
-//! The answer to what is asked of a file that was read.
+//! The output of a subcommand on a database that was read.
 ghost use Rattle.std.specs.Prelude.{◌≡◌, IfOk, Ok, option_map};
 ghost use Rattle.table_reads.specs.Holding.{number_of};
 ghost use Rattle.book_lines.specs.Book.{IsBook};
@@ -17,15 +17,21 @@ use std::alloc::{AllocError, Global};
 use subcommands::End;
 use table_rows::Tables;
 
-/// What is printed, and how the run then ends.
+/// The output of a subcommand, and the outcome of the run.
 #[derive(Drop)]
 pub struct Answer {
+    /// The text to print.
     pub text: Vec<u8>,
+    /// The outcome of the run if the text is printed.
     pub end: End,
 }
 
-/// The answer to what the words ask of a file that was read. Of one that is damaged only `check`
-/// prints anything. Errors: refused memory.
+/// Returns the output of the subcommand `words` on the database `book`, and the outcome of the run.
+/// If the rows aren't sound, only `check` has output.
+///
+/// # Errors
+///
+/// Returns `AllocError` if an allocation fails.
 pub fn answer_to(alloc: Global, words: &BookWords, book: &Book) -> Result<Answer, AllocError>
     requires { HasVerdict book.now.tables book.now.failing }
     ensures { IfOk result (IsAnswer words.now book.now) }
@@ -53,7 +59,7 @@ fn number_of(version: Version) -> u64
     }
 }
 
-// The answer of a file whose rows break this rule first.
+// Returns the answer for a database whose first broken rule is `rule`.
 fn damaged_answer(
     alloc: Global,
     form: Form,
@@ -78,7 +84,7 @@ fn damaged_answer(
     Ok(Answer { text, end })
 }
 
-// The answer of a file whose rows are those of sound contents.
+// Returns the answer for a database with sound rows.
 fn sound_answer(
     alloc: Global,
     form: Form,
@@ -124,7 +130,7 @@ fn done(text: Vec<u8>) -> Answer
     Answer { text, end }
 }
 
-// The answer of a text that is there; else this is missing.
+// Returns the answer with the text `found`, or with the refusal `missing` if there is no text.
 fn text_or(alloc: Global, missing: Refusal, found: Option<Vec<u8>>) -> Answer
     ensures { Gives (text_or missing (option_map (λ text. text.items) found)) result }
 {

@@ -1,4 +1,4 @@
-//! The answer printed.
+//! Prints the output of a subcommand.
 ghost use Rattle.std.specs.Prelude.{◌≡◌};
 ghost use Rattle.book_file.specs.Found.{HasVerdict};
 ghost use Rattle.book_answers.specs.Answers.{Prints};
@@ -11,8 +11,9 @@ use std::io::Write;
 use subcommands::End;
 use text_io::write_text;
 
-/// Prints the answer to what the words ask of a file that was read. Where the writer fails, a
-/// beginning of it was written.
+/// Prints the output of the subcommand `words` on the database `book`, and returns the outcome of
+/// the run. If the writer fails, only a prefix is written. If an allocation fails, nothing is
+/// written.
 pub fn print_answer<W: Write>(alloc: Global, words: &BookWords, book: &Book, writer: &mut W) -> End
     requires { HasVerdict book.now.tables book.now.failing }
     ensures { Prints words.now book.now (W.contents writer.old) (W.contents writer.new) result }

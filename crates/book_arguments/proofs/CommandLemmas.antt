@@ -1,4 +1,4 @@
--- A command with an argument more, and a program with a subcommand more.
+-- A command with another argument, and a program with another subcommand.
 use Rattle.std.proofs.Common.{◌≡◌, ◌∙◌, ◌||◌, ap}
 use Rattle.std.specs.Prelude.{IfOk, Ok, Err, Result}
 use Rattle.std.specs.declared.alloc.AllocError.{AllocError}

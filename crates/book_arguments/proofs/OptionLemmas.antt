@@ -1,4 +1,4 @@
--- What a reader gets of an option that has a text or a flag, and what one that has none means.
+-- The values of options with a text and of flags, and the meaning of a missing value.
 use Rattle.std.proofs.Common.{◌≡◌, ◌∙◌, Bool, List, true, false, if◌then◌else◌, refl, codes, Option, None, Some, sym, ap, option_map}
 use Rattle.std.specs.Prelude.{IfSome}
 use Rattle.std.specs.Borrow.{Bor}
@@ -65,7 +65,7 @@ module _ (E : Type 0) (name : Text) (f : Found) where
       at (Some t) is (Some false) none some true read = cc
       at (Some t) is None none some on read = cc
 
-  -- of an option's reader
+  -- If the getter of a flag returns a value, it is the value of the flag.
   pub flag_there : (r : Option Bool) → (one_text f name ≡ None → r ≡ None) → ((t : Text) → one_text f name ≡ Some t → ReadsOne (ParsesBool {E = E}) t r)
       → IfSome r (IsFlag name (rows_of f))
   flag_there (Some on) none some = flag_is (Some on) none some on refl

@@ -1,4 +1,4 @@
--- What a subcommand with options that lack something asks for: nothing.
+-- If an option of a subcommand is missing or has a wrong value, the arguments ask for no run.
 use Rattle.std.proofs.Common.{◌≡◌, ◌≢◌, ◌∙◌, Bool, true, false, List, Option, Some, None, Result, IfErr, IfOk, codes, refl, sym, ap, subst, inl, inr}
 use Rattle.std.specs.Prelude.{IfSome, bytes_eq}
 use Rattle.clap.specs.Words.{Row, Text, first_of}
@@ -10,11 +10,11 @@ use Rattle.book_arguments.specs.declared.words.Ask.TheVariants.{Check, Lists, Ca
 use Rattle.book_arguments.specs.declared.words.Unread.{Unread}
 use Rattle.book_arguments.specs.declared.words.Unread.TheVariants as lacks
 
--- two texts that a test keeps apart
+-- Two texts are different if `bytes_eq` distinguishes them.
 distinct : (a b : Text) → bytes_eq a a ≡ true → bytes_eq a b ≡ false → a ≡ b → ⊥
 distinct a b same other is = let bad : true ≡ false = sym same ∙ ap (bytes_eq a) is ∙ other in cc
 
--- ---- of a subcommand with options
+-- ---- a subcommand with options of its own
 
 module _ (rows : List Row) where
   no_product : ((t : Text) → first_of (codes "product") rows ≡ Some t → ⊥) → (ask : Ask) → Asks (codes "blanks") rows ask → ⊥
@@ -69,16 +69,16 @@ module _ (rows : List Row) where
   sheet_without_batch lacks.BadName bad = inr (inr refl, bad)
   sheet_without_batch lacks.Memory never = never
 
-  -- ---- of the subcommand of a name
+  -- ---- a subcommand by its name
 
-  -- what is asked under a name's text is asked under the name
+  -- A result for the text `word` is also a result for `name` if the two texts are equal.
   pub asked_as : (name word : Text) → name ≡ word → (r : Result Ask Unread) → IfOk r (Asks word rows) → IfOk r (Asks name rows)
   asked_as name word is r asks = subst (λ (n : Text). IfOk r (Asks n rows)) (sym is) asks
 
   pub unread_as : (name word : Text) → name ≡ word → (r : Result Ask Unread) → IfErr r (AsksNot word rows) → IfErr r (AsksNot name rows)
   unread_as name word is r not = subst (λ (n : Text). IfErr r (AsksNot n rows)) (sym is) not
 
-  -- ---- of its form
+  -- ---- the output form
 
   pub form_there : (name : Text) → name ≢ codes "sheet" → (r : Option Bool) → IfSome r (IsFlag (codes "json") rows) → IfSome r (IsForm name rows)
   form_there name other (Some on) flag = inr (other, flag)

@@ -1,4 +1,5 @@
--- What the words of the program mean: this project's profile, as a command of `clap`.
+-- The command line of `shopbook` (this project's profile), as a command of `clap`, and the meaning
+-- of its arguments.
 use Rattle.std.specs.Prelude.{◌≡◌, ◌≢◌, ◌⊎◌, ⊤, Bool, List, [], codes, Option, None, Some, true, false, string_bytes}
 use Rattle.clap.specs.Words.{App, Row, Rule, Text, fault_of, first_of, new_app, new_rule, subcommand_of, with_rule, with_subcommand}
 use Rattle.clap.specs.Words.{app_of, rule_of}
@@ -18,15 +19,15 @@ use Rattle.book_arguments.specs.declared.words.Unread.TheVariants as lacks
 
 -- ---- the command
 
--- it is this command, and its arguments are its own
+-- `c` is the command `app`, and none of its arguments is global
 abbrev pub IsSo : App → Command → Type 0
 IsSo app c = (app_of c ≡ app) × ((fields_of c).has_globals ≡ false)
 
--- it is this argument, and its command's own
+-- `a` is the argument `rule`, and it isn't global
 abbrev pub IsOwn : Rule → Arg → Type 0
 IsOwn rule a = (rule_of a ≡ rule) × (a.global ≡ false)
 
--- `--name WORD`, which has to be given, or may be
+-- `--name WORD`, required if `needed` is `true`
 abbrev pub text_rule : Text → Bool → Rule
 text_rule name needed = record (new_rule name) { long = Some name; value_names = 1; required = needed }
 
@@ -50,21 +51,22 @@ blanks_command = with_rule (with_rule (book_command (codes "blanks")) (text_rule
 abbrev pub sheet_command : App
 sheet_command = with_rule (file_command (codes "sheet")) (text_rule (codes "batch") true)
 
--- its words are refused by `fault_of`, and else have `subcommand_of`
+-- the command of the program: `fault_of` says which arguments `clap` refuses, and `subcommand_of`
+-- which subcommand the other arguments have
 abbrev pub program : App
 program =
     with_subcommand (with_subcommand (with_subcommand (with_subcommand (with_subcommand (with_subcommand (versioned (new_app (codes "shopbook")))
     (book_command (codes "check")).top) (book_command (codes "list")).top) cards_command.top) blanks_command.top)
     (book_command (codes "machines")).top) sheet_command.top
 
--- ---- the answers
+-- ---- the arguments that are accepted
 
--- the option names this state, or isn't there
+-- the value of `--state` is the given state, or the option isn't given
 abbrev pub HasState : List Row → Option BlankState → Type 0
 HasState rows None = first_of (codes "state") rows ≡ None
 HasState rows (Some state) = first_of (codes "state") rows ≡ Some (state_word state)
 
--- the subcommand for it
+-- the name of the subcommand
 abbrev pub word_for : Ask → Text
 word_for Check = codes "check"
 word_for Lists = codes "list"
@@ -73,74 +75,75 @@ word_for (Blanks product state) = codes "blanks"
 word_for Machines = codes "machines"
 word_for (Sheet batch) = codes "sheet"
 
--- the options have what it is about
+-- the options `rows` have the values of the subcommand
 abbrev pub AreOptionsOf : Ask → List Row → Type 0
 AreOptionsOf (Cards batch) rows = HasName (codes "batch") rows batch
 AreOptionsOf (Blanks product state) rows = HasName (codes "product") rows product × HasState rows state
 AreOptionsOf (Sheet batch) rows = HasName (codes "batch") rows batch
 AreOptionsOf _ rows = ⊤
 
--- the subcommand of this name with its options asks for this
+-- `name` is the name of the subcommand `ask`, and the options `rows` have its values
 abbrev pub Asks : Text → List Row → Ask → Type 0
 Asks name rows ask = (name ≡ word_for ask) × AreOptionsOf ask rows
 
--- `sheet` has no JSON
+-- `json` is the value of `--json`, and `false` for `sheet`, which doesn't have that option
 abbrev pub IsForm : Text → List Row → Bool → Type 0
 IsForm name rows json = ((name ≡ codes "sheet") × (json ≡ false)) ⊎ ((name ≢ codes "sheet") × IsFlag (codes "json") rows json)
 
--- over this file, in this form
+-- the subcommand `name` with the options `rows` reads as `w`
 abbrev pub Reads : Text → List Row → BookWords → Type 0
 Reads name rows w = Asks name rows w.ask × (first_of (codes "db") rows ≡ Some (string_bytes w.db)) × IsForm name rows w.json
 
--- a subcommand with its options is read as this answer
+-- `clap`'s subcommand `sub`, with its options, reads as `w`
 abbrev pub ReadsAs : Option (Text × List Row) → BookWords → Type 0
 ReadsAs sub w = (name : Text) × ((rows : List Row) × (sub ≡ Some (name, rows)) × Reads name rows w)
 
--- the words ask for this: it is how clap's subcommand of the words reads
+-- the arguments `words` ask for the given run: the subcommand that `clap` finds in them reads as it
 abbrev pub Means : List Text → BookWords → Type 0
 Means words = ReadsAs (subcommand_of program words)
 
 -- ---- the refusals
 
--- an option has no name
+-- `option` has no value, or its value isn't a name
 abbrev pub LacksName : Text → List Row → Unread → Type 0
 LacksName option rows lacks.Nothing = (t : Text) → ¬ (first_of option rows ≡ Some t)
 LacksName option rows lacks.BadName = HasBadName option rows
 LacksName option rows lacks.Memory = ⊥
 
--- it names no state, and it is there
+-- the value of `--state` isn't a state
 abbrev pub LacksState : List Row → Unread → Type 0
 LacksState rows lacks.Nothing = (state : Option BlankState) → ¬ HasState rows state
 LacksState rows lacks.BadName = ⊥
 LacksState rows lacks.Memory = ⊥
 
--- the subcommand is about a batch
+-- the subcommand `name` has the option `--batch`
 abbrev pub IsOfBatch : Text → Type 0
 IsOfBatch name = (name ≡ codes "cards") ⊎ (name ≡ codes "sheet")
 
--- its product or its batch is named by what isn't a name
+-- the value for the product or the batch of the subcommand `name` isn't a name
 abbrev pub NamesBadly : Text → List Row → Type 0
 NamesBadly name rows = ((name ≡ codes "blanks") × HasBadName (codes "product") rows) ⊎ (IsOfBatch name × HasBadName (codes "batch") rows)
 
--- the subcommand doesn't ask for anything
+-- the reason why the subcommand's own options aren't read
 abbrev pub AsksNot : Text → List Row → Unread → Type 0
 AsksNot name rows lacks.Nothing = (ask : Ask) → ¬ Asks name rows ask
 AsksNot name rows lacks.BadName = NamesBadly name rows
 AsksNot name rows lacks.Memory = ⊥
 
--- the subcommand isn't read
+-- the reason why the subcommand `name` with the options `rows` isn't read
 abbrev pub IsUnread : Text → List Row → Unread → Type 0
 IsUnread name rows lacks.Nothing = (w : BookWords) → ¬ Reads name rows w
 IsUnread name rows lacks.BadName = NamesBadly name rows
 IsUnread name rows lacks.Memory = ⊤
 
--- nor is any
+-- the reason why `clap`'s subcommand `sub` isn't read
 abbrev pub ReadsNot : Option (Text × List Row) → Unread → Type 0
 ReadsNot sub lacks.Nothing = (w : BookWords) → ¬ ReadsAs sub w
 ReadsNot sub lacks.BadName = (name : Text) × ((rows : List Row) × (sub ≡ Some (name, rows)) × IsUnread name rows lacks.BadName)
 ReadsNot sub lacks.Memory = ⊤
 
--- clap refuses the words so, or it takes them, and they ask for nothing or name what isn't a name
+-- the fault is `clap`'s refusal of the arguments `words`; or `clap` accepts them, and they ask for
+-- no run, or the value for a batch or a product isn't a name
 abbrev pub IsRefusal : List Text → WordsFault → Type 0
 IsRefusal words (Help text) = IsRefusedBy (fault_of program words) (Help text)
 IsRefusal words (Version text) = IsRefusedBy (fault_of program words) (Version text)

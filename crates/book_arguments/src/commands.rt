@@ -1,4 +1,4 @@
-//! The program's commands, as `clap` takes them.
+//! Builds the command line of `shopbook` for `clap`.
 ghost use Rattle.std.specs.Prelude.{◌≡◌, IfOk, codes};
 ghost use Rattle.clap.specs.Words.{App, Rule, app_of, with_rule, with_subcommand};
 ghost use Rattle.arguments.specs.Words.{flag};
@@ -9,42 +9,42 @@ ghost use Rattle.book_arguments.specs.Words.{text_rule};
 use clap::{Arg, ArgAction, Command};
 use std::alloc::{AllocError, Global};
 
-/// The program's version, which `--version` prints behind its name.
+/// The program's version, as `--version` prints it.
 const VERSION: &str = "1.0.0";
 
-/// What `cards` does.
-const OF_CARDS: &str = "Lists each session of a batch, by its records";
+/// The description of `cards`.
+const OF_CARDS: &str = "List the sessions of a batch, in the order of its records";
 
-/// What `blanks` does.
-const OF_BLANKS: &str = "Lists each charged blank of a product, and their sums";
+/// The description of `blanks`.
+const OF_BLANKS: &str = "List the charged blanks of a product, and their totals";
 
-/// What `machines` does.
-const OF_MACHINES: &str = "Lists each machine that ever asked";
+/// The description of `machines`.
+const OF_MACHINES: &str = "List the machines and the other clients that ever sent a request";
 
-/// What `sheet` does.
-const OF_SHEET: &str = "Prints a page of a batch, as HTML";
+/// The description of `sheet`.
+const OF_SHEET: &str = "Print one HTML page about a batch";
 
-/// The states of blanks.
-const STATES: &str = "Only those that are running, good, spoiled or discarded";
+/// The states that `--state` takes.
+const STATES: &str = "Only blanks in this state: running, good, spoiled or discarded; default: all";
 
 /// The last line of each help.
 const STATUSES: &str =
     "Exit statuses: 0 done; 1 refused; 2 wrong arguments; 3 storage, device or memory";
 
-/// The program with its subcommands.
+/// Returns the command of the program, with its subcommands.
 pub(crate) fn program<'a>(alloc: Global) -> Result<Command<'a>, AllocError>
     ensures { IfOk result (λ c. app_of c ≡ program) }
 {
     let check = book_command(
         alloc,
         "check",
-        "Audits the file, and counts the rows of its tables",
+        "Audit the database file and count the rows of its tables",
     )?;
-    let list = book_command(alloc, "list", "Lists products, lots and batches")?;
+    let list = book_command(alloc, "list", "List products, lots and batches")?;
     let machines = book_command(alloc, "machines", OF_MACHINES)?;
     let program = Command::new(alloc, "shopbook")
         .version(VERSION)
-        .about("Reads the file of a job server, and writes nothing to it")
+        .about("Reads and audits the database file of a job server, without changing it")
         .after_help(STATUSES)
         .subcommand_required(true);
     let program = joined(joined(program, check)?, list)?;
@@ -55,16 +55,16 @@ pub(crate) fn program<'a>(alloc: Global) -> Result<Command<'a>, AllocError>
     joined(joined(program, machines)?, sheet_command(alloc)?)
 }
 
-// A subcommand that wants a file.
+// A subcommand with `--db`.
 fn file_command<'a>(alloc: Global, name: &'a str, about: &'a str) -> Result<Command<'a>, AllocError>
     ensures { IfOk result (IsSo (file_command name.entry.now)) }
 {
-    let db = text(alloc, "db", "PATH", true, "The file that holds everything");
+    let db = text(alloc, "db", "PATH", true, "Path of the database file");
     let command = Command::new(alloc, name).about(about).after_help(STATUSES);
     with(command, db)
 }
 
-// A subcommand that wants a file and a form.
+// A subcommand with `--db` and `--json`.
 fn book_command<'a>(alloc: Global, name: &'a str, about: &'a str) -> Result<Command<'a>, AllocError>
     ensures { IfOk result (IsSo (book_command name.entry.now)) }
 {
@@ -74,14 +74,14 @@ fn book_command<'a>(alloc: Global, name: &'a str, about: &'a str) -> Result<Comm
 fn cards_command<'a>(alloc: Global) -> Result<Command<'a>, AllocError>
     ensures { IfOk result (IsSo cards_command) }
 {
-    let batch = text(alloc, "batch", "NAME", true, "The batch");
+    let batch = text(alloc, "batch", "NAME", true, "Name of the batch");
     with(book_command(alloc, "cards", OF_CARDS)?, batch)
 }
 
 fn blanks_command<'a>(alloc: Global) -> Result<Command<'a>, AllocError>
     ensures { IfOk result (IsSo blanks_command) }
 {
-    let product = text(alloc, "product", "NAME", true, "The product");
+    let product = text(alloc, "product", "NAME", true, "Name of the product");
     let state = text(alloc, "state", "STATE", false, STATES);
     let command = book_command(alloc, "blanks", OF_BLANKS)?;
     with(with(command, product)?, state)
@@ -90,11 +90,11 @@ fn blanks_command<'a>(alloc: Global) -> Result<Command<'a>, AllocError>
 fn sheet_command<'a>(alloc: Global) -> Result<Command<'a>, AllocError>
     ensures { IfOk result (IsSo sheet_command) }
 {
-    let batch = text(alloc, "batch", "NAME", true, "The batch");
+    let batch = text(alloc, "batch", "NAME", true, "Name of the batch");
     with(file_command(alloc, "sheet", OF_SHEET)?, batch)
 }
 
-// The command with an argument more.
+// Adds `arg` to `command`.
 fn with<'a>(command: Command<'a>, arg: Arg<'a>) -> Result<Command<'a>, AllocError>
     ensures { (app : App) (rule : Rule) → IsSo app command.entry → IsOwn rule arg.entry
         → IfOk result (IsSo (with_rule app rule)) }
@@ -102,7 +102,7 @@ fn with<'a>(command: Command<'a>, arg: Arg<'a>) -> Result<Command<'a>, AllocErro
     command.arg(arg)
 }
 
-// The program with a subcommand more.
+// Adds the subcommand `part` to `program`.
 fn joined<'a>(program: Command<'a>, part: Command<'a>) -> Result<Command<'a>, AllocError>
     ensures { (app sub : App) → app_of program.entry ≡ app → IsSo sub part.entry
         → IfOk result (λ c. app_of c ≡ with_subcommand app sub.top) }
@@ -110,7 +110,7 @@ fn joined<'a>(program: Command<'a>, part: Command<'a>) -> Result<Command<'a>, Al
     program.subcommand(part)
 }
 
-// `--name WORD`, which has to be given, or may be.
+// `--name WORD`, required if `needed` is `true`
 fn text<'a>(alloc: Global, name: &'a str, word: &'a str, needed: bool, help: &'a str) -> Arg<'a>
     ensures { IsOwn (text_rule name.entry.now needed) result }
 {
@@ -121,12 +121,12 @@ fn text<'a>(alloc: Global, name: &'a str, word: &'a str, needed: bool, help: &'a
         .help(help)
 }
 
-// `--json`, which is on where it is given.
+// `--json`, off by default
 fn json<'a>(alloc: Global) -> Arg<'a>
     ensures { IsOwn (flag (codes "json")) result }
 {
     Arg::new(alloc, "json")
         .long("json")
         .action(ArgAction::SetTrue)
-        .help("Prints a JSON object on each line")
+        .help("Print a JSON object on each line")
 }

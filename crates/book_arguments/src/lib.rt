@@ -1,4 +1,4 @@
-//! The words of the program `shopbook`, and what they ask for.
+//! Reads the arguments of `shopbook`.
 #![tactic(auto)]
 
 mod commands;

@@ -1,4 +1,4 @@
-//! The program's words: the subcommand that they ask for, the file, and the form.
+//! Reads the subcommand, the path and the output form from the arguments of `shopbook`.
 ghost use Rattle.std.specs.Prelude.{◌≡◌, [], Bool, IfErr, IfOk, IfSome, None, codes, map};
 ghost use Rattle.clap.specs.Words.{HasKind, Kinds, fault_of, found_of, rows_of};
 ghost use Rattle.clap.specs.Words.{subcommand_rows_of};
@@ -19,47 +19,50 @@ use std::alloc::{AllocError, Global};
 use std::convert::AsStr;
 use store_data::Name;
 
-/// What is printed for words that clap takes and that ask for nothing.
-const OUT_OF_RANGE: &str = "error: a value is out of its range\n";
-
-/// What is asked of a file.
+/// A subcommand of `shopbook` with its own options.
 #[derive(Clone, Copy, PartialEq, Eq)]
 pub enum Ask {
-    /// The verdict of its audit, and how many rows each table has.
+    /// Prints the verdict of the audit and the number of rows of each table.
     Check,
-    /// Products, lots and batches.
+    /// Lists the products, lots and batches.
     Lists,
-    /// The sessions of a batch, by its records.
+    /// Lists the sessions of `batch`, in the order of its records.
     Cards {
         batch: Name,
     },
-    /// The charged blanks of a product: all, or those that stand so.
+    /// Lists the charged blanks of `product`: all of them, or those in `state`.
     Blanks {
         product: Name,
         state: Option<BlankState>,
     },
-    /// The machines that ever asked.
+    /// Lists the machines and the other clients that ever sent a request.
     Machines,
-    /// A page of a batch, to be printed.
+    /// Prints one HTML page about `batch`.
     Sheet {
         batch: Name,
     },
 }
 
-/// What the words ask for.
+/// The arguments of a run of `shopbook`.
 #[derive(Drop, PartialEq, Eq)]
 pub struct BookWords {
     pub ask: Ask,
-    /// The path of the file.
+    /// The path of the database file.
     pub db: String,
-    /// Whether each line is a JSON object.
+    /// `true` if each line is printed as a JSON object.
     pub json: bool,
 }
 
-/// What the words ask for. The first is the program's own name, as `env::args` gives them.
+/// Returns the meaning of the arguments `words`. The first of them is the name of the program, as
+/// `env::args` returns it.
 ///
-/// `Help` and `Version` come only where `clap` answers the words so, with `clap`'s text. `Usage`
-/// comes where `clap` refuses them, with `clap`'s text too, or where they ask for nothing.
+/// # Errors
+///
+/// - `Help`, `Version`: the arguments ask for help or for the version. The text is `clap`'s.
+/// - `Usage`: `clap` refuses the arguments, and the text is `clap`'s, or the value of `--state`
+///   isn't a state.
+/// - `BadName`: the value of `--batch` or `--product` isn't a name.
+/// - `Memory`: an allocation fails.
 pub fn read_book_words<S: AsStr>(alloc: Global, words: &[S]) -> Result<BookWords, WordsFault>
     ensures meaning { IfOk result (Means (map S.text words.now)) }
     ensures taken { IfOk result (λ _. fault_of program (map S.text words.now) ≡ []) }
@@ -68,9 +71,7 @@ pub fn read_book_words<S: AsStr>(alloc: Global, words: &[S]) -> Result<BookWords
     match program(alloc)?.try_get_matches_from(words) {
         Ok(matches) => match words_of(alloc, &matches) {
             Ok(words) => Ok(words),
-            Err(Unread::Nothing) => {
-                Err(WordsFault::Usage(String::from_str(alloc, OUT_OF_RANGE)?))
-            }
+            Err(Unread::Nothing) => Err(WordsFault::Usage(bad_state(alloc, &matches)?)),
             Err(Unread::BadName) => Err(WordsFault::BadName),
             Err(Unread::Memory) => Err(WordsFault::Memory),
         },
@@ -78,14 +79,26 @@ pub fn read_book_words<S: AsStr>(alloc: Global, words: &[S]) -> Result<BookWords
     }
 }
 
-/// Why words that `clap` takes are not read.
+// The usage error for arguments that `clap` accepts: it has checked everything except the state.
+fn bad_state(alloc: Global, matches: &ArgMatches<'_>) -> Result<String, AllocError> {
+    let state = match matches.subcommand() {
+        Some((_, values)) => values.get_str("state").unwrap_or(""),
+        None => "",
+    };
+    format!(in alloc;
+        "error: invalid value '{state}' for '--state <STATE>': use running, good, \
+        spoiled or discarded\n"
+    )
+}
+
+/// A reason why arguments that `clap` accepts can't be read.
 #[derive(Clone, Copy, Debug, PartialEq, Eq)]
 enum Unread {
-    /// They ask for nothing.
+    /// A value is missing, or the state isn't one.
     Nothing,
-    /// What should be a name isn't a name.
+    /// The value of `--batch` or `--product` isn't a name.
     BadName,
-    /// Memory was refused.
+    /// An allocation failed.
     Memory,
 }
 
@@ -97,7 +110,7 @@ impl From<AllocError> for Unread {
     }
 }
 
-// The subcommand with its options, if it is one of the program's and each of its values is there.
+// Reads the subcommand that `clap` found.
 fn words_of(alloc: Global, matches: &ArgMatches<'_>) -> Result<BookWords, Unread>
     ensures meaning { IfOk result (ReadsAs (subcommand_rows_of matches.now)) }
     ensures unread { IfErr result (ReadsNot (subcommand_rows_of matches.now)) }
@@ -108,7 +121,7 @@ fn words_of(alloc: Global, matches: &ArgMatches<'_>) -> Result<BookWords, Unread
     }
 }
 
-// The options of the subcommand of this name.
+// Reads the options of the subcommand `name`.
 fn read(alloc: Global, name: &str, values: &ArgMatches<'_>) -> Result<BookWords, Unread>
     ensures meaning { IfOk result (Reads name.now (rows_of (found_of values.now))) }
     ensures unread { IfErr result (IsUnread name.now (rows_of (found_of values.now))) }
@@ -124,7 +137,7 @@ fn read(alloc: Global, name: &str, values: &ArgMatches<'_>) -> Result<BookWords,
     Ok(BookWords { ask, db, json })
 }
 
-// Whether the subcommand of this name prints JSON: `sheet` doesn't.
+// Reads `--json`, which `sheet` doesn't have.
 fn json_of(name: &str, values: &ArgMatches<'_>) -> Option<bool>
     ensures some { IfSome result (IsForm name.now (rows_of (found_of values.now))) }
     ensures none { result ≡ None → (json : Bool)
@@ -136,7 +149,7 @@ fn json_of(name: &str, values: &ArgMatches<'_>) -> Option<bool>
     }
 }
 
-// What the subcommand of this name asks.
+// Reads the options of the subcommand `name`, except `--db` and `--json`.
 fn ask_of(name: &str, values: &ArgMatches<'_>) -> Result<Ask, Unread>
     ensures meaning { IfOk result (Asks name.now (rows_of (found_of values.now))) }
     ensures unread { IfErr result (AsksNot name.now (rows_of (found_of values.now))) }
@@ -152,7 +165,7 @@ fn ask_of(name: &str, values: &ArgMatches<'_>) -> Result<Ask, Unread>
     }
 }
 
-// What `cards` asks.
+// Reads the options of `cards`.
 fn cards_of(values: &ArgMatches<'_>) -> Result<Ask, Unread>
     ensures meaning { IfOk result (Asks (codes "cards") (rows_of (found_of values.now))) }
     ensures unread { IfErr result (AsksNot (codes "cards") (rows_of (found_of values.now))) }
@@ -161,7 +174,7 @@ fn cards_of(values: &ArgMatches<'_>) -> Result<Ask, Unread>
     Ok(Ask::Cards { batch })
 }
 
-// What `blanks` asks.
+// Reads the options of `blanks`.
 fn blanks_of(values: &ArgMatches<'_>) -> Result<Ask, Unread>
     ensures meaning { IfOk result (Asks (codes "blanks") (rows_of (found_of values.now))) }
     ensures unread { IfErr result (AsksNot (codes "blanks") (rows_of (found_of values.now))) }
@@ -171,7 +184,7 @@ fn blanks_of(values: &ArgMatches<'_>) -> Result<Ask, Unread>
     Ok(Ask::Blanks { product, state })
 }
 
-// What `sheet` asks.
+// Reads the options of `sheet`.
 fn sheet_of(values: &ArgMatches<'_>) -> Result<Ask, Unread>
     ensures meaning { IfOk result (Asks (codes "sheet") (rows_of (found_of values.now))) }
     ensures unread { IfErr result (AsksNot (codes "sheet") (rows_of (found_of values.now))) }
@@ -180,7 +193,7 @@ fn sheet_of(values: &ArgMatches<'_>) -> Result<Ask, Unread>
     Ok(Ask::Sheet { batch })
 }
 
-// The name that an option has.
+// Reads the value of `option` as a name.
 fn name_of(values: &ArgMatches<'_>, option: &str) -> Result<Name, Unread>
     ensures name { IfOk result (HasName option.now (rows_of (found_of values.now))) }
     ensures unread { IfErr result (LacksName option.now (rows_of (found_of values.now))) }
@@ -194,7 +207,7 @@ fn name_of(values: &ArgMatches<'_>, option: &str) -> Result<Name, Unread>
     }
 }
 
-// The state that the options name, if they name one.
+// Reads `--state`, if it is given.
 fn state_of(values: &ArgMatches<'_>) -> Result<Option<BlankState>, Unread>
     ensures state { IfOk result (HasState (rows_of (found_of values.now))) }
     ensures unread { IfErr result (LacksState (rows_of (found_of values.now))) }
@@ -208,7 +221,7 @@ fn state_of(values: &ArgMatches<'_>) -> Result<Option<BlankState>, Unread>
     }
 }
 
-// The state of this name.
+// Returns the state that is written as `word`.
 fn state_named(word: &str) -> Option<BlankState>
     ensures some { IfSome result (λ state. word.now ≡ state_word state) }
     ensures none { result ≡ None → (state : StateValue) → ¬ (word.now ≡ state_word state) }
@@ -222,7 +235,7 @@ fn state_named(word: &str) -> Option<BlankState>
     }
 }
 
-// What an error of `clap` says.
+// Returns the fault for an error of `clap`.
 fn refusal_of(alloc: Global, error: &Error) -> Result<WordsFault, AllocError>
     ensures { IfOk result (λ fault. (kinds : Kinds) → HasKind kinds error.now
         → IsRefusedBy kinds fault) }

@@ -1,4 +1,4 @@
--- A file that was just opened holds what it held.
+-- Lemma: a file that was just opened has the contents that it had before.
 use Rattle.std.proofs.Common.{◌≡◌, ap, subst, ◌∙◌, ℕ, Bool, false, List, [], ◌∷◌, inl, inr, if◌then◌else◌}
 use Rattle.sqlite_disk.specs.Events.{Event, Model, replay, settled}
 use Rattle.sqlite_disk.specs.History.{MayLeave}

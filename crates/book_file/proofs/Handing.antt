@@ -1,4 +1,4 @@
--- What is read of a connection over files, and handed back with them.
+-- Lemmas: from what was read over a connection to the result with the two files.
 use Rattle.std.proofs.Common.{◌≡◌, ◌⊎◌, ◌∙◌, Bool, IsTrue, Option, Some, None, Result, Ok, Err, IfOk, IfErr, inl, inr, refl, sym, ap, subst, arith}
 use Rattle.std.proofs.Math.Logic.{∥∥₁_map}
 use Rattle.std.specs.Prelude.{IfSome, MatchOption}
@@ -24,13 +24,14 @@ use Rattle.sqlite_trees.proofs.Doubt.{no_doubt}
 use Rattle.over_tables.specs.Refusals.{Explains}
 use Rattle.over_tables.specs.declared.fault.FileFault.{FileFault}
 use Rattle.over_tables.specs.declared.fault.FileFault.TheVariants.{Storage}
-use Rattle.book_file.specs.Files.{FailsToOpen, HoldNow, InFiles, IsIn, IsReadOf, IsSaidOf, IsUnread, opens_none}
+use Rattle.store_files.specs.Wal.{opens_none}
+use Rattle.book_file.specs.Files.{FailsToOpen, HoldNow, InFiles, IsIn, IsReadOf, IsSaidOf, IsUnread}
 use Rattle.book_file.specs.Found.{IsFound}
 use Rattle.book_file.specs.Left.{IsLeft, IsLog, WereClosed, unguarded}
 use Rattle.book_file.specs.declared.book.Book.{Book}
 use Rattle.book_file.specs.declared.guarded.Guarded.{Guarded}
 
--- ---- a connection that was opened
+-- ---- an opened connection
 
 pub found_in : (image seen : Image) (s : State) → seen ≡ image → Opens s → IsLive s → ((trees : Trees) → HoldsDatabase seen trees → s.committed.trees ≡ trees) → AreFoundIn seen s.committed.trees → IsIn image s.now
 found_in image seen s same opens live holds reads = subst (λ i. IsIn i s.now) same (record {
@@ -55,7 +56,7 @@ module _ {D : Type 0} {g : disk.Ghosts D} (stays : (file : D) → g.may_leave fi
   pub clean_first : HasCleanDisk (file_state first)
   clean_first = omega (arith, survives.clean, clean_last)
 
-  -- whatever the files recover to after a crash was there when they were opened
+  -- Every database to which the files recover after a crash was in them when they were opened.
   same : IsOpened first → (trees : Trees) → recovers is.last trees → trees ≡ (file_state first).now.trees
   same opened trees may =
       let before : recovers first.store trees = elim (survives.crash clean_last trees (is.quiet.outcomes trees may)) [ inl old ↦ old | inr never ↦ absurd never ] in
@@ -68,7 +69,7 @@ module _ {D : Type 0} {g : disk.Ghosts D} (stays : (file : D) → g.may_leave fi
       (λ found. subst (HoldsDatabase image) (same opened found.0 found.1) found.2) in
       record { read = each _ (stays _, stays _); left = each }
 
--- ---- what was read from it, of the database that the files held
+-- ---- the result for the database that the files held
 
 module _ {D : Type 0} {g : disk.Ghosts D} (image : Image) (conn : Held (FileStore D g)) (opened : HasCleanDisk (file_state conn) → IsOpened conn) (found : HasCleanDisk (file_state conn) → IsIn image (file_state conn).now)
     (left : Files D) where
@@ -80,7 +81,7 @@ module _ {D : Type 0} {g : disk.Ghosts D} (image : Image) (conn : Held (FileStor
   fault_in_files (Ok book) is = tt
   fault_in_files (Err fault) is = λ clean. let of = is clean in ((file_state conn).now, found of.was_clean, of.kept (opened of.was_clean), of.why)
 
--- ---- the files that are handed back
+-- ---- the returned files
 
 module _ {A E F : Type 0} (answer : Result A E × Option F) (read : Result A E) (files : F) (lost : E) (Lost : Type 0) (same : (answer ≡ (read, Some files)) ⊎ (Lost × (answer ≡ (Err lost, None)))) where
   pub found_with : (P : A → F → Type 0) → IfOk read (λ x. P x files) → IfOk answer.0 (λ x. IfSome answer.1 (P x))
@@ -95,7 +96,7 @@ module _ {A E F : Type 0} (answer : Result A E × Option F) (read : Result A E) 
     | inr is ↦ subst (λ (a : Result A E × Option F). IfErr a.0 (λ e. Q e a.1)) (sym is.1) (without is.0)
   ]
 
--- ---- why there is no book
+-- ---- the reasons why there is no book
 
 weaker : {A E : Type 0} (P Q : E → Type 0) (read : Result A E) → ((e : E) → P e → Q e) → IfErr read P → IfErr read Q
 weaker P Q (Ok x) f value = tt
@@ -111,7 +112,7 @@ module _ {D S C A : Type 0} {d : disk.Ghosts D} {s : start.Ghosts S} (g : disk.G
       (weaker (λ fault. InFiles d (image_at s) (λ db. Explains db fault) (unguarded files)) (λ fault. IsUnread g IsFresh fault (Some (unguarded files))) read (λ fault h. inr h) value)
       (λ log. inr (refl, (files, log, inl closed)))
 
-  -- none was
+  -- no database was opened in the files
   pub unopened_in_files : (error : Error) (some : Option (Files (Guarded D S d s))) → opened ≡ Err (error, some) → some ≡ Some files → (fault : FileFault) → read ≡ Err fault → IsSaidOf error files fault
       → IfErr answer.0 (λ fault. IsUnread g IsFresh fault answer.1)
   unopened_in_files error some is has fault so said =

@@ -1,4 +1,4 @@
--- What rows that were read come to.
+-- Lemmas: from the rows that were read to the result.
 use Rattle.std.proofs.Common.{◌≡◌, false, Option, Some, None, Result, Ok, Err, IfOk, IsTrue, is_some, refl, sym, subst}
 use Rattle.std.specs.Prelude.{IfSome, MatchOption}
 use Rattle.sqlite.specs.Effect.{Database}
@@ -44,7 +44,7 @@ verdict_of t u None law sound first sorted same =
     record { audited = a; sorted = sorted; ready = ready_of u sorted (first_hold u (rules_hold u a)) }
 verdict_of t u (Some rule) law sound first sorted same = first
 
--- ---- what was read of tables of a version
+-- ---- the rows of tables of a version
 
 module _ (v : Version) (db : Database) (is : IsOfVersion v db) (there : AreThere db.schema (schema_of v).tables) (given : Option Tables)
     (read : MatchOption given (HoldsNoneOf v db) (HasRows v db)) where
@@ -61,13 +61,13 @@ module _ (v : Version) (db : Database) (is : IsOfVersion v db) (there : AreThere
         verdict = judged.verdict;
       }
 
--- ---- a state before that shows the same
+-- ---- an earlier state that shows the same database
 
 pub found_before : {E : Type 0} (old mid : State) → IsKept old mid → (r : Result Finding E) → IfOk r (λ found. IsTrue mid.is_open × Agrees mid.now found) → IfOk r (Agrees old.now)
 found_before old mid kept (Ok found) value = subst (λ db. Agrees db found) (kept.now_is value.0) value.1
 found_before old mid kept (Err e) value = tt
 
--- ---- the version that was found
+-- ---- the version of the tables
 
 abbrev IsThere : Database → Version → Type 0
 IsThere db v = AreThere db.schema (schema_of v).tables

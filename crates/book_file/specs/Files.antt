@@ -1,5 +1,5 @@
--- What comes of the file at a path: a book of the database that its two files held, or why there is
--- none.
+-- The result of `book_in` for the file at a path: a book of the database that its two files held,
+-- or the fault that says why there is no book.
 use Rattle.std.specs.Prelude.{◌≡◌, ◌⊎◌, Bool, true, false, IfErr, IfOk, IsTrue, Option, Some, None, Result}
 use Rattle.std.specs.declared.alloc.AllocError.{AllocError}
 use Rattle.sqlite.specs.Closing.{files_left}
@@ -14,8 +14,6 @@ use Rattle.sqlite.specs.WalFiles.{image_at, outcomes}
 use Rattle.sqlite.specs.WalReads.{AreClean}
 use Rattle.sqlite.specs.declared.FileStore.{FileStore}
 use Rattle.sqlite.specs.declared.error.Error.{Error}
-use Rattle.sqlite.specs.declared.error.Error.TheVariants.{SqliteFailure}
-use Rattle.sqlite.specs.declared.error.ErrorCode.TheVariants.{CannotOpen, DatabaseBusy, OutOfMemory}
 use Rattle.sqlite.specs.declared.file.Leftover.{Leftover}
 use Rattle.sqlite_disk.specs.declared.Disk as disk
 use Rattle.sqlite_disk.specs.declared.Files.{Files}
@@ -26,6 +24,7 @@ use Rattle.over_tables.specs.declared.cause.Cause.TheVariants.{NoFile, Tables}
 use Rattle.over_tables.specs.declared.fault.FileFault.{FileFault}
 use Rattle.over_tables.specs.declared.fault.FileFault.TheVariants.{NotOurs, Storage}
 use Rattle.store_files.specs.Unopened.{of_opening}
+use Rattle.store_files.specs.Wal.{IsOfLook}
 use Rattle.store_files.specs.declared.place.Place.{Place}
 use Rattle.book_file.specs.Found.{IsFound}
 use Rattle.book_file.specs.Left.{IsLog, KeepsDatabase, WasToBeWritten, WereClosed, file_of, unguarded}
@@ -34,54 +33,51 @@ use Rattle.book_file.specs.declared.guarded.Guarded.{Guarded}
 
 -- ---- the database in two files
 
--- the database that two files with these bytes hold, or an empty one where they hold nothing
+-- `db` is the database that two files with the bytes `image` hold, or an empty database if they
+-- hold none.
 pub record IsIn (image : Image) (db : Database) : Type 0 where
   pub sound : IsDatabase db
   pub holds : (trees : Trees) → HoldsDatabase image trees → db.trees ≡ trees
   pub reads : AreFoundIn image db.trees
 
--- The two files hold a database with these trees: as they read, and whatever a crash leaves of them.
+-- The two files hold a database with the trees `trees`, both in their current contents and in
+-- everything that a crash may leave.
 abbrev pub HoldNow : {D : Type 0} → disk.Ghosts D → Trees → Files D → Type 0
 HoldNow g trees files = KeepsDatabase (image_of g files) (outcomes g files.log files.db) trees
 
--- If the two files, as they are handed back, have returned what was written, `P` is true of the
--- database that they held when they were opened, and they still hold it.
+-- If the two returned files have returned what was written, `P` is true of the database that they
+-- held when they were opened, and they still hold it.
 abbrev pub InFiles : {D : Type 0} → disk.Ghosts D → Image → (Database → Type 0) → Files D → Type 0
 InFiles g image P files = AreClean g files.log files.db → (db : Database) × IsIn image db × HoldNow g db.trees files × P db
 
--- `read` is true of the database of the connection, and the files that are left still hold it
+-- `read` is a correct result for the database of the connection, and the files `left` still hold
+-- this database.
 pub record IsReadOf {D : Type 0} {g : disk.Ghosts D} (conn : Held (FileStore D g)) (read : Result Book FileFault) (left : Files D) : Type 0 where
   pub was_clean : HasCleanDisk (file_state conn)
   pub found : IfOk read (IsFound (file_state conn).now)
   pub why : IfErr read (Explains (file_state conn).now)
   pub kept : IsOpened conn → HoldNow g (file_state conn).now.trees left
 
--- ---- why there is no book
+-- ---- the reasons why there is no book
 
--- the file has nothing
+-- the refusal of a file without tables
 abbrev pub empty : FileFault
 empty = NotOurs (Tables Empty)
 
--- before two files are given to SQLite there are just these errors
-abbrev pub opens_none : Error → Bool
-opens_none (SqliteFailure CannotOpen) = true
-opens_none (SqliteFailure OutOfMemory) = true
-opens_none (SqliteFailure DatabaseBusy) = true
-opens_none _ = false
-
--- What the file system says of the path alone: nothing has it, its file has nothing, or its two
--- files can't be opened, which refused memory is too.
+-- The fault was found before SQLite was called: nothing has the path, the file is empty, the two
+-- files can't be opened, which includes a failed allocation, or the WAL is damaged or couldn't be
+-- examined.
 abbrev pub IsOfPath : FileFault → Type 0
-IsOfPath fault = (fault ≡ NotOurs NoFile) ⊎ ((fault ≡ empty) ⊎ ((error : Error) × (place : Result Place AllocError) × IsTrue (opens_none error) × (fault ≡ of_opening error place)))
+IsOfPath fault = (fault ≡ NotOurs NoFile) ⊎ ((fault ≡ empty) ⊎ IsOfLook fault)
 
--- The fault is that of the error, by what the file system says of the path. Or it is that the file
--- has nothing: then SQLite was to write to the database file.
+-- The fault is the fault for the error of SQLite and the place of the file. Or SQLite tried to
+-- write to the database file, and the fault says that the file has no tables.
 abbrev pub IsSaidOf : {D S : Type 0} {d : disk.Ghosts D} {s : start.Ghosts S} → Error → Files (Guarded D S d s) → FileFault → Type 0
 IsSaidOf error last fault = ((place : Result Place AllocError) × (fault ≡ of_opening error place)) ⊎ (WasToBeWritten last.db × (fault ≡ empty))
 
 module _ {D S : Type 0} {d : disk.Ghosts D} {s : start.Ghosts S} (g : disk.Ghosts (Guarded D S d s)) (IsFresh : Bool → D → Type 0) where
-  -- SQLite is given two files that were just opened. For this error it opens no database in them, and
-  -- these are left
+  -- SQLite gets two files that were just opened, opens no database in them because of `error`, and
+  -- leaves the files `last`.
   pub record FailsToOpen (error : Error) (last : Files (Guarded D S d s)) : Type 0 where
     pub named : IsTrue (is_open_error error)
     pub first : Files (Guarded D S d s)
@@ -90,17 +86,17 @@ module _ {D S : Type 0} {d : disk.Ghosts D} {s : start.Ghosts S} (g : disk.Ghost
     pub last_is : (last.log, last.db) ≡ files_left left
     pub failed : IsCleanLeft left → FailsToOpenFiles first left error × LeavesFiles first left
 
-  -- SQLite opens no database in the files, and the fault says why
+  -- SQLite opens no database in the files, and the fault says why.
   abbrev pub IsUnopened : FileFault → Files D → Type 0
   IsUnopened fault files = (error : Error) × (last : Files (Guarded D S d s)) × FailsToOpen error last × (files ≡ unguarded last) × IsSaidOf error last fault
 
-  -- SQLite was given two files, and gave the WAL back as the database file
+  -- SQLite got two files, and returned the WAL as the database file.
   abbrev pub HasSwapped : Type 0
   HasSwapped = (last : Files (Guarded D S d s)) × IsLog last.db × (WereClosed g last ⊎ ((error : Error) × FailsToOpen error last))
 
-  -- Why there is no book. If no file is handed back, the fault is what the file system says of the
-  -- path, or SQLite has swapped the two files. Otherwise SQLite opens no database in the files that are
-  -- handed back, or the fault describes their database.
+  -- The fault says why there is no book. If no files are returned, the fault was found before
+  -- SQLite was called, or SQLite has swapped the two files. Otherwise SQLite opens no database in
+  -- the returned files, or the fault describes their database.
   abbrev pub IsUnread : FileFault → Option (Files D) → Type 0
   IsUnread fault None = IsOfPath fault ⊎ ((fault ≡ Storage) × HasSwapped)
   IsUnread fault (Some files) = IsUnopened fault files ⊎ InFiles d (image_at s) (λ db. Explains db fault) files

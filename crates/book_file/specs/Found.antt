@@ -1,4 +1,4 @@
--- What is found in a database whose tables are read and audited.
+-- The result of reading and auditing a database.
 use Rattle.std.specs.Prelude.{◌≡◌, Option, Some, None}
 use Rattle.sqlite.specs.Effect.{Database}
 use Rattle.table_rows.specs.Tables.{HaveSameRows, Tables}
@@ -14,25 +14,26 @@ use Rattle.book_file.specs.declared.book.Book.{Book}
 use Rattle.book_file.specs.declared.finding.Finding.{Finding}
 use Rattle.book_file.specs.declared.finding.Finding.TheVariants.{NotOurs, Unreadable, Read}
 
--- rows in order are those of sound contents, or this rule is the first that they break
+-- The sorted rows are the rows of sound contents, or `rule` is the first audit rule that they
+-- break.
 abbrev pub HasVerdict : Tables → Option Rule → Type 0
 HasVerdict t None = IsBook t
 HasVerdict t (Some rule) = FailsFirst rules t rule
 
--- the rows of the database, in order, with their verdict
+-- `book` has the rows of the database `db`, sorted, with their verdict.
 pub record IsFound (db : Database) (book : Book) : Type 0 where
   pub held : HoldsRows book.version book.tables db
   pub sorted : AreSorted book.tables
   pub verdict : HasVerdict book.tables book.failing
 
--- the same rows in order, with their verdict
+-- `book` has the rows `t`, sorted, with their verdict.
 pub record IsJudged (version : Version) (t : Tables) (book : Book) : Type 0 where
   pub version_is : book.version ≡ version
   pub same : HaveSameRows book.tables t
   pub sorted : AreSorted book.tables
   pub verdict : HasVerdict book.tables book.failing
 
--- rows that were read have their verdict, whatever the device gave
+-- Rows that were read have a correct verdict, even if the device returned wrong data.
 abbrev pub IsWhole : Finding → Type 0
 IsWhole (Read book) = HasVerdict book.tables book.failing
 IsWhole _ = Unit {0}

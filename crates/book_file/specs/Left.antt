@@ -1,4 +1,4 @@
--- How the files of a database are left that was read.
+-- The two files of a database after it was read.
 use Rattle.std.specs.Prelude.{◌≡◌, ◌<◌, ℕ, true, IsTrue, List}
 use Rattle.sqlite.specs.FileStore.{faults, files, is_shielded, recovers, view}
 use Rattle.sqlite.specs.Files.{HoldsDatabase}
@@ -13,17 +13,18 @@ use Rattle.sqlite_disk.specs.declared.Files.{Files}
 use Rattle.sqlite_disk.specs.declared.Start as start
 use Rattle.book_file.specs.declared.guarded.Guarded.{Guarded}
 
--- it reads as these bytes, and a crash leaves these bytes
+-- The file shows the contents `bytes`, and a crash leaves the same contents.
 pub record HoldsStill {D : Type 0} (g : disk.Ghosts D) (bytes : List ℕ) (file : D) : Type 0 where
   pub seen : g.seen file ≡ bytes
   pub left : Only bytes (g.may_leave file)
 
--- `seen` and each image that a crash may leave hold a database with these trees
+-- `seen` and every image that a crash may leave hold a database with the trees `trees`.
 pub record KeepsDatabase (seen : Image) (MayLeave : Image → Type 0) (trees : Trees) : Type 0 where
   pub read : ∥ HoldsDatabase seen trees ∥₁
   pub left : (image : Image) → MayLeave image → ∥ HoldsDatabase image trees ∥₁
 
--- `left` are the files of the connection's store, which was rolled back: nothing else was done to them
+-- `left` are the files of the store of the connection, after its transaction was rolled back.
+-- Nothing else was done to them.
 pub record IsLeft {D : Type 0} {g : disk.Ghosts D} (conn : Held (FileStore D g)) (left : Files D) : Type 0 where
   pub last : FileStore D g
   pub given : (left.log, left.db) ≡ files last
@@ -32,7 +33,7 @@ pub record IsLeft {D : Type 0} {g : disk.Ghosts D} (conn : Held (FileStore D g))
   pub numbered : IsClean (view last) → IsTrue (view last).is_numbered
   pub sound : IsClean (view last) → AreDatabases (recovers last)
 
--- `left` are the files of a connection that was closed in this way
+-- `left` are the files of a connection that was closed like this.
 abbrev pub WereClosed : {D : Type 0} → disk.Ghosts D → Files D → Type 0
 WereClosed {D} g left = (conn : Held (FileStore D g)) × IsLeft conn left
 
@@ -43,10 +44,10 @@ file_of f = f.file
 abbrev pub unguarded : {D S : Type 0} {g : disk.Ghosts D} {s : start.Ghosts S} → Files (Guarded D S g s) → Files D
 unguarded files = record { log = file_of files.log; db = file_of files.db }
 
--- the file is the WAL
+-- The file is the WAL.
 abbrev pub IsLog : {D S : Type 0} {g : disk.Ghosts D} {s : start.Ghosts S} → Guarded D S g s → Type 0
 IsLog f = f.is_log ≡ true
 
--- a write to the file was refused
+-- A write to the file was refused.
 abbrev pub WasToBeWritten : {D S : Type 0} {g : disk.Ghosts D} {s : start.Ghosts S} → Guarded D S g s → Type 0
 WasToBeWritten f = 0 < f.refused

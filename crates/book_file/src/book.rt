@@ -1,14 +1,15 @@
-//! What was read of a file.
+//! The rows that were read from a database file.
 use audit_rows::Rule;
 use sql_tables::Version;
 use table_rows::Tables;
 
-/// The rows of a file's tables, in order.
+/// The rows of a database, with the result of the audit.
 #[derive(Drop)]
 pub struct Book {
-    /// The version of the tables.
+    /// The schema version.
     pub version: Version,
-    /// The first rule that the rows break: none where they are those of sound contents.
+    /// The first audit rule that the rows break, or `None` if they are the rows of sound contents.
     pub failing: Option<Rule>,
+    /// The rows of all tables, sorted.
     pub tables: Tables,
 }

@@ -1,9 +1,9 @@
-//! The file at a path.
+//! Reads and audits the database file at a path.
 ghost use Rattle.std.specs.Prelude.{◌≡◌, ◌⊎◌, false, IfErr, IfOk, IfSome, IsOk, IsSome};
 ghost use Rattle.sqlite.specs.WalFiles.{image_at};
 ghost use Rattle.sqlite.specs.WalReads.{AreClean};
 ghost use Rattle.sqlite_std_file.specs.File.{IsFresh};
-ghost use Rattle.book_file.specs.Files.{InFiles, IsReadOf, IsUnread, empty};
+ghost use Rattle.book_file.specs.Files.{InFiles, IsOfPath, IsReadOf, IsUnread, empty};
 ghost use Rattle.book_file.specs.Found.{HasVerdict, IsFound};
 ghost use Rattle.book_file.specs.Left.{HoldsStill, IsLeft, IsLog, WereClosed, unguarded};
 
@@ -17,24 +17,35 @@ use sqlite::{Connection, Error, ErrorCode, FileFrom, FileStore};
 use sqlite_disk::{self, Disk, Start};
 use std::alloc::{AllocError, AllocGlobal, Global};
 use std::fs::Files;
-use store_files::{Place, has_log, has_more, place_of, unopened};
+use store_files::{Place, has_log, has_more, place_of, refuse_damaged_at, unopened};
 
-/// What was read of a file or why it was not, and its two files, where they were opened.
+/// The result of reading a database file, and its two files if they were opened.
 pub type BookWithFiles<S> = (
     Result<Book, FileFault>,
     Option<sqlite_disk::Files<FileFrom<S>>>,
 );
 
-/// Reads and audits the file at `path`, and returns its two files if they were opened. `start`
-/// stands for what they held before.
+/// Reads and audits the database file at `path`, and returns its two files if they were opened.
+/// `start` represents the contents of the two files before the call.
 ///
-/// The database file isn't written, and the WAL keeps what it has for it: if the two files returned
-/// what was written to them, the book has the rows of the database that they held when they were
-/// opened, and they still hold it, even after a crash.
+/// The database file isn't written, and the WAL keeps everything that it has for the database file.
+/// If the two files have returned what was written to them, the book has the rows of the database
+/// that they held when they were opened. They still hold this database, even after a crash. Opening
+/// the database may write to the WAL, and no checkpoint follows.
+///
+/// The answers of the file system have no contract. Only tests therefore show which files are
+/// opened, that an error without files has a true cause, and that the bytes of the WAL don't
+/// change.
 ///
 /// # Errors
 ///
-/// Returns why the file isn't read.
+/// Returns the reason why the file isn't read. Rows that break an audit rule aren't an error.
+///
+/// - `NotOurs`: the file doesn't exist or is empty, its WAL is damaged, SQLite can't open it, or
+///   its tables don't have the form of any schema version.
+/// - `Damaged`: a row has a value that no row of its table can have.
+/// - `Storage`: the device of the file failed.
+/// - `Memory`: an allocation fails.
 pub fn book_in<S: Start>(rt: &HostRuntime, path: &str, start: S) -> BookWithFiles<S>
     ensures verdict { IfOk result.0 (λ book. HasVerdict book.tables book.failing) }
     ensures given { IsOk result.0 → IsSome result.1 }
@@ -46,10 +57,9 @@ pub fn book_in<S: Start>(rt: &HostRuntime, path: &str, start: S) -> BookWithFile
         (λ fault. IsUnread ⟦<GuardedFile<S> as Disk>⟧ IsFresh fault result.1) }
 {
     match place_of(rt, path) {
-        Ok(Place::File { is_sqlite: _ }) => match is_blank(rt, path) {
-            Ok(true) => (Err(empty()), None),
-            Ok(false) => book_at(rt, path, start),
-            Err(AllocError) => (Err(FileFault::Memory), None),
+        Ok(Place::File { is_sqlite: _ }) => match refuse_unread(rt, path) {
+            Ok(()) => book_at(rt, path, start),
+            Err(fault) => (Err(fault), None),
         },
         Ok(Place::NoFile) => {
             let cause = Cause::NoFile;
@@ -62,7 +72,29 @@ pub fn book_in<S: Start>(rt: &HostRuntime, path: &str, start: S) -> BookWithFile
     }
 }
 
-// A file with no tables isn't ours.
+// Refuses a file whose WAL is damaged, and a file in which SQLite would create a database. The WAL
+// is examined in a separate open, because SQLite drops everything after the damage when it opens
+// the file.
+fn refuse_unread(rt: &HostRuntime, path: &str) -> Result<(), FileFault>
+    ensures { IfErr result IsOfPath }
+{
+    match refuse_damaged_at(rt, path) {
+        Ok(()) => refuse_blank(rt, path),
+        Err(fault) => Err(fault),
+    }
+}
+
+fn refuse_blank<R: Files + AllocGlobal>(rt: &R, path: &str) -> Result<(), FileFault>
+    ensures { IfErr result IsOfPath }
+{
+    match is_blank(rt, path) {
+        Ok(true) => Err(empty()),
+        Ok(false) => Ok(()),
+        Err(AllocError) => Err(FileFault::Memory),
+    }
+}
+
+// Returns the refusal of a file without tables.
 fn empty() -> FileFault
     ensures { result ≡ empty }
 {
@@ -71,13 +103,13 @@ fn empty() -> FileFault
     FileFault::NotOurs { cause }
 }
 
-// Whether SQLite would begin a database in a file. It would then drop the WAL, so an empty file is
-// never opened, even if its WAL has commits.
+// Returns `true` if SQLite would create a database in the file. It would then drop the WAL, so an
+// empty file is never opened, even if its WAL has commits.
 fn is_blank<R: Files + AllocGlobal>(rt: &R, path: &str) -> Result<bool, AllocError> {
     Ok(!has_more(rt, path, 0)? || (!has_more(rt, path, 1)? && !has_log(rt, path)?))
 }
 
-// Reads and audits the file at a path that has one.
+// Reads and audits the database file at `path`, which exists.
 fn book_at<S: Start>(rt: &HostRuntime, path: &str, start: S) -> BookWithFiles<S>
     ensures verdict { IfOk result.0 (λ book. HasVerdict book.tables book.failing) }
     ensures given { IsOk result.0 → IsSome result.1 }
@@ -99,7 +131,7 @@ fn book_at<S: Start>(rt: &HostRuntime, path: &str, start: S) -> BookWithFiles<S>
     }
 }
 
-// Reads and audits the database of a connection, and closes its files without a checkpoint.
+// Reads and audits the database `conn`, and closes its files without a checkpoint.
 fn read_and_leave<D: Disk + Drop>(
     alloc: Global,
     mut conn: Connection<FileStore<D>>,
@@ -114,7 +146,8 @@ fn read_and_leave<D: Disk + Drop>(
     (read, files)
 }
 
-// What was read, with the files.
+// Returns `read` with the two files, which are no longer guarded. If the WAL was returned as the
+// database file, returns `Storage` without files.
 fn with_files<D: Disk + Drop, S: Start>(
     read: Result<Book, FileFault>,
     files: sqlite_disk::Files<Guarded<D, S>>,
@@ -133,7 +166,7 @@ fn with_files<D: Disk + Drop, S: Start>(
     }
 }
 
-// Closes a file as it is.
+// Closes the files of a connection without a checkpoint.
 fn leave<D: Disk + Drop>(conn: Connection<FileStore<D>>) -> sqlite_disk::Files<D>
     ensures { IsLeft conn result }
 {

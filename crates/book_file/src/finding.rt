@@ -1,4 +1,4 @@
-//! What is found in a database.
+//! Reads and audits a database, and finds the difference of its tables from a schema version.
 ghost use Rattle.std.specs.Prelude.{◌≡◌, false, IfOk, IsTrue};
 ghost use Rattle.sqlite.specs.Held.{state};
 ghost use Rattle.sqlite.specs.State.{HasCleanDisk, Survives};
@@ -17,18 +17,19 @@ use std::alloc::Global;
 use table_reads::{read_all, says};
 use table_rows::Tables;
 
-/// What is found in a database.
+/// The result of reading a database.
 #[derive(Drop)]
 pub(crate) enum Finding {
-    /// The tables are those of no version of ours.
+    /// A difference from the tables of the nearest schema version. The tables don't have the form
+    /// of any version.
     NotOurs { difference: Difference },
-    /// They are ours, and a row has a value that no row of ours has.
+    /// A row with a value that no row of its table can have. The tables have the form of a version.
     Unreadable,
-    /// Their rows were read.
+    /// The rows, with the result of the audit.
     Read { book: Book },
 }
 
-// The rows in order, with the first rule that they break.
+// Sorts the rows, and returns them with the first audit rule that they break.
 fn judged(alloc: Global, version: Version, mut tables: Tables) -> Result<Book, Error>
     ensures { IfOk result (IsJudged version tables) }
 {
@@ -41,7 +42,7 @@ fn judged(alloc: Global, version: Version, mut tables: Tables) -> Result<Book, E
     })
 }
 
-// What is found in tables of this version.
+// Reads and audits tables of the version `version`.
 fn read<S: Alter>(
     alloc: Global,
     conn: &mut Connection<S>,
@@ -66,7 +67,7 @@ fn read<S: Alter>(
     Ok(Finding::Read { book })
 }
 
-// What is found in tables that are ours.
+// Reads and audits tables that have the form of a version.
 fn read_ours<S: Alter>(alloc: Global, conn: &mut Connection<S>) -> Result<Finding, Error>
     requires { conn.old.in_transaction ≡ false }
     ensures value { HasCleanDisk (state S.Store conn.new) → IfOk result
@@ -88,13 +89,13 @@ fn read_ours<S: Alter>(alloc: Global, conn: &mut Connection<S>) -> Result<Findin
     }
 }
 
-// A device that gave tables of ours gives others now.
+// Returns the error if a device that returned the tables of a version now returns other data.
 fn changed() -> Error {
     Error::SqliteFailure(ErrorCode::SystemIoFailure)
 }
 
-/// What is found in a database. It reads each table whole into memory. Nothing is changed, and a
-/// crash leaves what it could leave before.
+/// Reads and audits a database. All tables are read into memory completely. Nothing is written, and
+/// a crash leaves what it could leave before.
 pub(crate) fn find<S: Alter>(alloc: Global, conn: &mut Connection<S>) -> Result<Finding, Error>
     requires { conn.old.in_transaction ≡ false }
     ensures value { HasCleanDisk (state S.Store conn.new)

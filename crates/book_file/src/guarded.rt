@@ -1,4 +1,4 @@
-//! A file that is read for a database, and never written where it is the database file itself.
+//! Guards the two files of a database, so that the database file is never written.
 ghost use Rattle.std.specs.Prelude.{◌≡◌, ◌+◌, false, IfSome, IsErr};
 ghost use Rattle.sqlite_disk.specs.Disk.{CountsFault, Only};
 ghost use Rattle.sqlite_disk.specs.Refusal.{finds_no_room};
@@ -7,15 +7,16 @@ use sqlite_disk::{Disk, Start, Tally};
 use std::io;
 use std::marker::PhantomData;
 
-/// One of the two files of a database. Its log takes what an open writes, and the database file
-/// refuses each write: whatever is called, it holds what it held as it was opened.
+/// One of the two files of a database. The WAL accepts what SQLite writes when it opens the
+/// database. The database file refuses every write, so no call changes the contents that it had
+/// when it was opened.
 #[derive(Drop)]
 pub struct Guarded<D: Disk, S: Start> {
     file: D,
-    // What the two files held as they were opened.
+    // Represents the contents of the two files when they were opened.
     start: PhantomData<S>,
     is_log: bool,
-    /// How many writes were refused.
+    /// The number of refused writes.
     refused: u64,
     ghost kept: { is_log ≡ false → Only S.Start.db (D.Disk.may_leave file) },
 }
@@ -24,7 +25,7 @@ impl<D: Disk, S: Start> Guarded<D, S> {
     ghost use Rattle.std.specs.Prelude.{◌↔◌, IsTrue, None};
     ghost use Rattle.book_file.specs.Left.{HoldsStill, IsLog, WasToBeWritten, file_of};
 
-    /// Guards a file that was just opened.
+    /// Guards `file`, which was just opened. `is_log` is `true` if it is the WAL.
     pub(crate) fn new(file: D, is_log: bool) -> Guarded<D, S>
         requires { is_log ≡ false → Only S.Start.db (D.Disk.may_leave file) }
         ensures file { file_of result ≡ file }
@@ -37,14 +38,14 @@ impl<D: Disk, S: Start> Guarded<D, S> {
         }
     }
 
-    /// Whether a write was refused: SQLite would begin a database in it.
+    /// Returns `true` if a write was refused: SQLite tried to create a database in the file.
     pub(crate) fn was_to_be_written(&self) -> bool
         ensures { IsTrue result ↔ WasToBeWritten self.now }
     {
         self.refused > 0
     }
 
-    /// The file: none where it is the log.
+    /// Returns the database file without its guard, or `None` if the file is the WAL.
     pub(crate) fn into_database(self) -> Option<D>
     where
         D: Drop,
@@ -58,7 +59,7 @@ impl<D: Disk, S: Start> Guarded<D, S> {
         Some(self.file)
     }
 
-    /// The file.
+    /// Returns the file without its guard.
     pub(crate) fn into_file(self) -> D
         ensures { result ≡ file_of self }
     {
@@ -66,7 +67,7 @@ impl<D: Disk, S: Start> Guarded<D, S> {
     }
 }
 
-// Counts a write that is refused.
+// Counts a refused write, and returns its error.
 fn refuse(refused: &mut u64) -> io::Result<()>
     ensures err { IsErr result }
     ensures faults { CountsFault result refused.old refused.new }

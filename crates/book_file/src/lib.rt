@@ -1,4 +1,4 @@
-//! The file of a job server, read whole and audited, and left as it is.
+//! Reads all rows of a database file and audits them, without writing to the file.
 #![tactic(auto)]
 
 mod book;

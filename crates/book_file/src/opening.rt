@@ -1,10 +1,11 @@
-//! A database opened over files of which the database file is never written.
+//! Opens a database without writing to its database file.
 ghost use Rattle.std.specs.Prelude.{◌≡◌, true, false, IfErr, IfOk, IsTrue, MatchOption};
 ghost use Rattle.sqlite.specs.Files.{IsOpened, file_state};
 ghost use Rattle.sqlite.specs.State.{HasCleanDisk};
 ghost use Rattle.sqlite.specs.WalFiles.{image_at};
 ghost use Rattle.sqlite_std_file.specs.File.{IsFresh};
-ghost use Rattle.book_file.specs.Files.{FailsToOpen, IsIn, opens_none};
+ghost use Rattle.store_files.specs.Wal.{opens_none};
+ghost use Rattle.book_file.specs.Files.{FailsToOpen, IsIn};
 ghost use Rattle.book_file.specs.Left.{file_of};
 
 use crate::guarded::Guarded;
@@ -14,14 +15,18 @@ use sqlite_std_file::OpenError;
 use std::hash::{BuildHasher, RandomState};
 use std::io::ErrorKind;
 
-/// A file that was opened at a path, guarded.
+/// A guarded file that was opened at a path.
 pub(crate) type GuardedFile<S> = Guarded<FileFrom<S>, S>;
 
 const NO_MEMORY: Error = Error::SqliteFailure(ErrorCode::OutOfMemory);
 
 const CANNOT_OPEN: Error = Error::SqliteFailure(ErrorCode::CannotOpen);
 
-/// Opens the database at a path. An error comes with its files, once they were opened.
+/// Opens the database in the file at `path`.
+///
+/// # Errors
+///
+/// Returns the error of SQLite, with the two files if they were opened.
 pub(crate) fn open_guarded<S: Start>(
     rt: &HostRuntime,
     path: &str,
@@ -48,7 +53,8 @@ pub(crate) fn open_guarded<S: Start>(
     }
 }
 
-// The two files at a path. Errors: those that `Connection::open_from` has.
+// Opens the two files at `path` and guards them. The errors are the same as for
+// `Connection::open_from`.
 fn guarded_files<S: Start>(
     rt: &HostRuntime,
     path: &str,

@@ -1,4 +1,4 @@
-//! A database of our tables, read and audited.
+//! Reads and audits a database.
 ghost use Rattle.std.specs.Prelude.{◌≡◌, false, IfErr, IfOk};
 ghost use Rattle.sqlite.specs.Held.{state};
 ghost use Rattle.sqlite.specs.State.{HasCleanDisk, Survives};
@@ -14,10 +14,16 @@ use over_tables::{Cause, FileFault};
 use sqlite::{Alter, Connection};
 use std::alloc::Global;
 
-/// The rows of a database whose tables are ours, of any version, in order, with the first rule that
-/// they break. It reads each table whole into memory. Nothing is changed, and a crash leaves what
-/// it could leave before. Errors: tables that aren't ours, a row that has a value that no row of
-/// ours has, refused memory, and a device that fails.
+/// Returns the rows of a database, sorted, with its schema version and the first audit rule that
+/// they break. All tables are read into memory completely. Nothing is written, and a crash leaves
+/// what it could leave before.
+///
+/// # Errors
+///
+/// - `NotOurs`: the tables don't have the form of any schema version.
+/// - `Damaged`: a row has a value that no row of its table can have.
+/// - `Storage`: the device failed.
+/// - `Memory`: an allocation fails.
 pub fn read_book<S: Alter>(alloc: Global, conn: &mut Connection<S>) -> Result<Book, FileFault>
     requires { conn.old.in_transaction ≡ false }
     ensures value { HasCleanDisk (state S.Store conn.new)

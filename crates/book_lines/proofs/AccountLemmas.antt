@@ -1,4 +1,4 @@
--- The sums of a product's charged blanks are its account, by the facts.
+-- Lemmas: the sums of a product's charged blanks are its account by the facts.
 use Rattle.std.proofs.Common.{◌≡◌, ◌≢◌, ◌==◌, ◌&&◌, ◌+◌, ◌≤◌, ℕ, Bool, true, false, cond, List, [], ◌∷◌, ◌++◌, All, Some, get_or, length, map, inl, inr, refl, sym, ap, ◌∙◌, subst, arith, IsPermutation}
 use Rattle.std.specs.Prelude.{AllPairs, count_by, filter, find, option_map, slice_get, sum_by}
 use Rattle.std.specs.List.{position_or_len}
@@ -37,15 +37,15 @@ use Rattle.book_lines.specs.Blanks.{Charge, IsAccount, blanks_for, charge_of, ch
 use Rattle.book_lines.specs.declared.blank_state.BlankState.{BlankState}
 use Rattle.book_lines.specs.declared.blank_state.BlankState.TheVariants as blank
 
--- ---- counts and sums of what is kept
+-- ---- counts and sums of filtered lists
 
 module _ {X : Type 0} (p q : X → Bool) where
-  -- tests that agree at each count alike
+  -- predicates that agree on every element give the same count
   counted_alike : (xs : List X) → All (λ x. p x ≡ q x) xs → count_by p xs ≡ count_by q xs
   counted_alike xs alike = sym (length-filter p xs) ∙ ap length (filter_alike p q xs alike) ∙ length-filter q xs
 
 module _ {X : Type 0} (p : X → Bool) (g : X → ℕ) where
-  -- a sum of those that are kept
+  -- the sum over the elements that satisfy `p`
   summed : (xs : List X) → sum_by (λ x. cond (p x) (g x) 0) xs ≡ sum_by g (filter p xs)
   summed [] = refl
   summed (x ∷ xs) =
@@ -64,7 +64,7 @@ module _ {X : Type 0} (p : X → Bool) (g : X → ℕ) where
   first_is_found [] = refl
   first_is_found (x ∷ xs) = elim (cases_Bool (p x)) [ inl hit ↦ rw hit refl | inr miss ↦ rw miss (first_is_found xs) ]
 
--- ---- each charged blank stands one way
+-- ---- each charged blank is in exactly one state
 
 one_state : (state : BlankState) → one (same_state blank.Good state) + one (same_state blank.Running state) + one (same_state blank.Spoiled state) + one (same_state blank.Discarded state) ≡ 1
 one_state blank.Running = refl
@@ -81,7 +81,7 @@ all_stand (c ∷ charges) =
     let step : (state : BlankState) → standing state (c ∷ charges) ≡ one (stands_so state c) + standing state charges = λ state. sum_by-cons (λ d. one (stands_so state d)) c charges in
     omega (arith, all_stand charges, one_state (stands_on c.on), step blank.Good, step blank.Running, step blank.Spoiled, step blank.Discarded)
 
--- ---- by the facts
+-- ---- facts
 
 module _ (t : Tables) (c : Contents) (audited : IsAudited t) (sound : IsSound c.facts) (same : HaveSameRows t (image c)) (p : List ℕ) where
   abbrev f : Facts
@@ -138,7 +138,7 @@ module _ (t : Tables) (c : Contents) (audited : IsAudited t) (sound : IsSound c.
       let found : find (charges_it n) f.sessions ≡ Some s = found_alone (charges_it n) f.sessions (once_of (charges_it n) f.sessions (charged_once n)) k d within (equal n n refl) in
       ap stands_on (found_on n ∙ ap (option_map (row_with n)) found)
 
-  -- ---- counted
+  -- ---- counts
 
   abbrev opened_row : Session → StoredBlank
   opened_row s = stored_blank f false s.blank
@@ -175,7 +175,7 @@ module _ (t : Tables) (c : Contents) (audited : IsAudited t) (sound : IsSound c.
   none_counted : {X : Type 0} (q : X → Bool) (xs : List X) → All (λ x. q x ≡ false) xs → count_by q xs ≡ 0
   none_counted {X} q xs none = counted_alike q (λ (x : X). false) xs none ∙ sum_by_nothing xs
 
-  -- of a state that sessions have
+  -- the count for a state that a session can have
   session_count : (state : BlankState) (its : SessionState) → ((s : SessionState) → same_state state (stands_by s) ≡ same_session_state its s)
       → same_state state blank.Discarded ≡ false → count_so state (charges_of t p) ≡ count_sessions (blank_states f p) its
   unfolding blank_states
@@ -219,7 +219,7 @@ module _ (t : Tables) (c : Contents) (audited : IsAudited t) (sound : IsSound c.
   same_spoiled session.Good = refl
   same_spoiled session.Spoiled = refl
 
-  -- ---- the account
+  -- ---- account
 
   abbrev count_of : StoredLot → ℕ
   count_of l = l.lot.count

@@ -1,4 +1,4 @@
--- Among sorted rows those of a range stand together.
+-- Lemmas: in sorted rows, the rows of a range are adjacent.
 use Rattle.std.proofs.Common.{◌≡◌, ℕ, ◌+◌, ◌<◌, ◌≤◌, Bool, true, false, ◌&&◌, leb, ltb, List, ◌++◌, length, take, drop, get_or, All, sym, ap, ◌∙◌, subst, arith}
 use Rattle.std.specs.Prelude.{filter}
 use Rattle.std.specs.List.Sorted.{IsPartitionPoint}
@@ -11,7 +11,7 @@ module _ {X : Type 0} (n : X → ℕ) (low end : ℕ) (xs : List X) where
   abbrev inside : X → Bool
   inside x = leb low (n x) && ltb (n x) end
 
-  -- from where the numbers reach the one to where they reach the other
+  -- the rows between the two partition points are the rows of the range
   rest_is : (first count : ℕ) → first ≤ length xs → IsPartitionPoint (λ y. ltb (n y) low ≡ true) (λ y. ltb (n y) low ≡ false) xs first
       → count ≤ length (drop first xs) → IsPartitionPoint (λ y. ltb (n y) end ≡ true) (λ y. ltb (n y) end ≡ false) (drop first xs) count
       → take count (drop first xs) ≡ filter inside xs

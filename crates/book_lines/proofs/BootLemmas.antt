@@ -1,4 +1,5 @@
--- A machine's line by the contents that the rows are an image of; its next boot is new.
+-- Lemmas about the line of a client: it agrees with the contents that the rows represent, and its
+-- next boot number is new.
 use Rattle.std.proofs.Common.{◌≡◌, ◌==◌, ◌&&◌, ◌<◌, ◌≤◌, ◌+◌, ◌*◌, ℕ, zero, suc, Bool, true, false, List, [], ◌∷◌, All, get_or, length, max, Option, Some, None, inl, inr, sym, ap, ◌∙◌, arith, IsPermutation}
 use Rattle.std.specs.Prelude.{AllPairs, bytes_eq, filter, find, fold, nat_lt, option_map, unwrap_or}
 use Rattle.std.proofs.lemmas.Bool.{cases_Bool, and_left, and_right, both_ways}
@@ -16,7 +17,7 @@ use Rattle.row_laws.proofs.SessionRows.{running_in_rows, running_once}
 use Rattle.book_lines.specs.Machines.{IsMachine, boot_above, boot_by, boot_of, is_kept_for, last_boot, running_on}
 
 module _ {X : Type 0} (f : X → ℕ) where
-  -- the greatest so far
+  -- the maximum of `last` and the values of `f`
   abbrev greatest : ℕ → List X → ℕ
   greatest last xs = fold (λ n x. max n (f x)) last xs
 
@@ -29,14 +30,14 @@ module _ {X : Type 0} (f : X → ℕ) where
   each_at_most last (x ∷ xs) zero d within = omega (arith, at_least (max last (f x)) xs)
   each_at_most last (x ∷ xs) (suc k) d within = each_at_most (max last (f x)) xs k d (omega arith)
 
--- one above the greatest
+-- the next boot number is one above the last one
 above_is : (last boot : ℕ) → boot_above last ≡ Some boot → boot ≡ last + 1
 above_is last boot is = elim (cases_Bool (nat_lt last 9999999999)) [
   | inl hit ↦ let e = rw hit at is in cc
   | inr miss ↦ let e = rw miss at is in absurd (cc)
 ]
 
--- at most one passes: it is found in any order
+-- if at most one element satisfies `p`, `find` returns it in any order
 moved : {X : Type 0} (p : X → Bool) (xs ys : List X) → IsPermutation xs ys → AllPairs (λ x y. p x ≡ true → p y ≡ false) ys → find p xs ≡ find p ys
 moved p xs ys same alone = find_moved p xs ys same (omega (arith, count_moved p xs ys same, at_most_one p ys alone))
 

@@ -1,4 +1,4 @@
--- A record's sessions, found by its place among those of its batch.
+-- Lemmas about the sessions of a record, found by its position among the sessions of its batch.
 use Rattle.std.proofs.Common.{◌≡◌, ◌==◌, ℕ, true, List, [], ◌∷◌, All, map, refl, ap, ◌∙◌}
 use Rattle.std.specs.Prelude.{filter}
 use Rattle.std.proofs.lemmas.List.Elements.{All-weaker, filter_passes}

@@ -1,4 +1,4 @@
--- Whoever asked, added from one table after the other.
+-- Lemma: adding the clients of one table after another gives all clients.
 use Rattle.std.proofs.Common.{◌≡◌, ℕ, List, [], ◌++◌, fold, sym, ap, ◌∙◌}
 use Rattle.std.proofs.lemmas.List.Sums.{fold-append}
 use Rattle.store_data.specs.Groups.{first_appearances, with_key}

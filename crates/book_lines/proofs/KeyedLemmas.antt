@@ -1,4 +1,4 @@
--- Sessions that are sorted by a number.
+-- Lemmas about sessions sorted by a key.
 use Rattle.std.proofs.Common.{◌≡◌, ◌==◌, ℕ, Bool, List, [], ◌∷◌, map, refl, sym, ap, ◌∙◌}
 use Rattle.std.specs.Prelude.{filter, option_map, slice_get}
 use Rattle.std.proofs.Math.Bool.{and-true}
@@ -28,7 +28,7 @@ keyed_of number sessions xs ys is ordered stable = record {
       ∙ sym (filter_agree here (has_key number_key key) (key_is v) (map under sessions)) ∙ filter-map here under sessions;
 }
 
--- the first of those under a number
+-- the first session with a key
 pub first_under : (number : StoredSession → ℕ) (xs : List StoredSession) → option_map (λ (k : ℕ × StoredSession). k.1) (slice_get (map (λ (s : StoredSession). (number s, s)) xs) 0) ≡ slice_get xs 0
 first_under number [] = refl
 first_under number (s ∷ xs) = refl

@@ -1,4 +1,4 @@
--- The blanks of lots: they fit the program's numbers.
+-- Lemmas about the number of blanks in all lots, which fits in 64 bits.
 use Rattle.std.proofs.Common.{◌≡◌, ◌≤◌, ◌<◌, ◌+◌, ◌^◌, ℕ, Bool, true, false, cond, List, All, get_or, length, take, sym, ap, arith}
 use Rattle.std.specs.Prelude.{sum_by}
 use Rattle.std.proofs.lemmas.List.{length-map}
@@ -31,7 +31,7 @@ module _ (p : List ℕ) (lots : List StoredLot) (i : ℕ) (l : StoredLot) (total
       let same : share_for p (get_or lots i l) ≡ share_for p l = ap (share_for p) (sym is) in
       omega (arith, so_far, next, same, sum_by_more (share_for p) lots i l within)
 
--- at most 4,096 lots of at most 1,000,000 blanks each
+-- there are at most 4,096 lots with at most 1,000,000 blanks each
 pub few_blanks : (t : Tables) → IsAudited t → sum_by count_of t.lots < 2 ^ 64
 few_blanks t audited =
     let most : All (λ (l : StoredLot). l.lot.count ≤ 1000000) t.lots

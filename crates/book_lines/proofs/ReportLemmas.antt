@@ -1,4 +1,5 @@
--- The close report of a batch: what is counted for it is what its rows have, and by the facts it is theirs.
+-- Lemmas about the report of a batch: its counters agree with the rows of the batch, and it is the
+-- report by the facts.
 use Rattle.std.proofs.Common.{◌≡◌, ◌==◌, ◌&&◌, ◌+◌, ◌<◌, ℕ, Bool, true, List, [], ◌∷◌, ◌++◌, All, Contains, Option, Some, None, cond, get_or, length, map, refl, sym, take, ap, ◌∙◌, subst, arith}
 use Rattle.std.specs.Prelude.{bytes_eq, filter, find, option_map}
 use Rattle.std.specs.List.{list_any}
@@ -49,7 +50,7 @@ use Rattle.book_lines.proofs.CardLemmas.{of_batch}
 
 -- ---- totals
 
--- 1 where a record stands so
+-- 1 if a record is in the state `state`, otherwise 0
 abbrev one : RecordState → RecordState → ℕ
 one state s = cond (same_record_state state s) 1 0
 
@@ -104,7 +105,7 @@ totals_are_of t b records is many =
       spoiled = b.spoiled;
     }
 
--- ---- a record's line
+-- ---- the line of a record
 
 module _ (t : Tables) (r : StoredRecord) (keyed : List (ℕ × StoredSession))
     (are : AreKeyed (λ (s : StoredSession). s.place) (filter (is_session_of r.batch) t.sessions) keyed) where
@@ -117,7 +118,7 @@ module _ (t : Tables) (r : StoredRecord) (keyed : List (ℕ × StoredSession))
   own_is : own ≡ map under_place (filter (is_session_at r.batch r.place) t.sessions)
   own_is = are.found r.place ∙ ap (map under_place) (filter-both (λ (s : StoredSession). s.place == r.place) (is_session_of r.batch) t.sessions)
 
-  -- each of its sessions is spoiled, or its card
+  -- the sessions of a record are its spoiled ones and, if the record is running or good, one more
   sessions_many : IsAuditedRecord t r → length own ≡ r.spoiled + cards r.state
   sessions_many is =
       let its : List StoredSession = filter (is_session_at r.batch r.place) t.sessions in
@@ -198,11 +199,11 @@ module _ (t : Tables) (audited : IsAudited t) where
   pub records_are_named : All (λ (r : StoredRecord). IsName r.name) t.records
   records_are_named = All-weaker (λ (r : StoredRecord). IsPlaced t (key_of r)) (λ (r : StoredRecord). IsName r.name) record_is_named t.records (records_placed t audited)
 
--- ---- the records of a batch, one by one
+-- ---- the records of a batch, in order
 
 module _ (t : Tables) (audited : IsAudited t) (id : ℕ) (records : List StoredRecord) (own : records ≡ filter (is_record_of id) t.records)
     (k : ℕ) (r : StoredRecord) (within : k < length records) (is : r ≡ get_or records k r) where
-  -- what holds of each record holds of it
+  -- a property of all records in the tables is true for `r`
   of_each : (P : StoredRecord → Type 0) → All P t.records → P r
   of_each P each = subst P (sym is) (subst (All P) (sym own) (All-filter (is_record_of id) P t.records each) k r within)
 
@@ -212,7 +213,7 @@ module _ (t : Tables) (audited : IsAudited t) (id : ℕ) (records : List StoredR
   own_batch : r.batch ≡ id
   own_batch = subst (λ (x : StoredRecord). x.batch ≡ id) (sym is) (subst (All (λ (x : StoredRecord). x.batch ≡ id)) (sym own) (of_batch id t.records) k r within)
 
-  -- its line is one more
+  -- adds the line of record `k` to the lines before it
   pub line_more : (keyed : List (ℕ × StoredSession)) → AreKeyed (λ (s : StoredSession). s.place) (filter (is_session_of id) t.sessions) keyed → (lines : List RecordLine) (line : RecordLine)
       → lines ≡ map (line_of (filter (is_good_of id) t.sessions)) (take k records)
       → (IsAuditedRecord t r → AreKeyed (λ (s : StoredSession). s.place) (filter (is_session_of r.batch) t.sessions) keyed → line ≡ line_of (filter (is_good_of r.batch) t.sessions) r)
@@ -225,7 +226,7 @@ module _ (t : Tables) (audited : IsAudited t) (id : ℕ) (records : List StoredR
       this (of_each (IsAuditedRecord t) audited.each_record) keys ∙ ap (λ n. by_batch n r) own_batch ∙ ap (by_batch id) is in
       ap (λ ls. ls ++ line ∷ []) so_far ∙ ap (λ l. map (by_batch id) (take k records) ++ l ∷ []) here ∙ sym (map_more (by_batch id) records k r within)
 
--- ---- by the facts
+-- ---- facts
 
 module _ (t : Tables) (c : Contents) (book : IsBook t) (sound : AreSound c) (same : HaveSameRows t (image c)) (n : List ℕ) where
   abbrev f : Facts

@@ -1,4 +1,6 @@
--- What `blanks` prints: each charged blank of a product, in the order of serials, with its state and with the record that it was for; and their sums.
+-- The output of `shopbook blanks`: a line for each charged blank of a product, in the order of
+-- rows, with its lot, its state, and the record and batch that it was charged for; then a line with
+-- the sums.
 use Rattle.std.specs.Prelude.{◌≡◌, ◌≢◌, ◌==◌, ◌+◌, ℕ, ◌-◌, AllPairs, Bool, true, false, List, [], ◌∷◌, ◌++◌, codes, filter, flat_map, length, map, slice_get, sum_by, if◌then◌else◌, Option, Some, None, option_map, option_and_then}
 use Rattle.store_data.specs.declared.row.Product.{Product}
 use Rattle.job_facts.specs.declared.facts.SessionState.{SessionState}
@@ -16,26 +18,26 @@ use Rattle.book_lines.specs.Lines.{Line, line_text, name_cell, number_cell, word
 
 -- ---- charged blanks
 
--- a charged blank, and the session that is on it: none where it is discarded
+-- a charged blank, and the session that charged it; a discarded blank has no session
 pub record Charge : Type 0 where
   pub blank : StoredBlank
   pub on : Option StoredSession
 
--- the first of those on this serial: sound rows have no other
+-- the first session on the blank `serial`; sound rows have at most one
 abbrev pub session_on : List StoredSession → ℕ → Option StoredSession
 session_on sessions serial = slice_get (filter (λ (s : StoredSession). s.serial == serial) sessions) 0
 
 abbrev pub charge_of : Tables → StoredBlank → Charge
 charge_of t b = record { blank = b; on = if b.discarded then None else session_on t.sessions b.serial }
 
--- its serial lies in a lot of the product
+-- The serial of `b` is in a lot of the product `p`.
 abbrev pub is_of : Tables → List ℕ → StoredBlank → Bool
 is_of t p b = is_lot_of p (lot_of (lots_of t.lots) b.serial)
 
 abbrev pub charges_of : Tables → List ℕ → List Charge
 charges_of t p = map (charge_of t) (filter (is_of t p) t.blanks)
 
--- a session of the batch with this id is on it
+-- There is a session, and it belongs to the batch with the id `id`.
 abbrev pub is_session_for : ℕ → Option StoredSession → Bool
 is_session_for id None = false
 is_session_for id (Some s) = s.batch == id
@@ -46,7 +48,7 @@ is_charged_to id c = is_session_for id c.on
 abbrev pub batch_charges : Tables → ℕ → List Charge
 batch_charges t id = filter (is_charged_to id) (map (charge_of t) t.blanks)
 
--- ---- how they stand
+-- ---- states
 
 abbrev pub stands_by : SessionState → BlankState
 stands_by session.Running = blank.Running
@@ -73,13 +75,13 @@ state_word blank.Good = codes "good"
 state_word blank.Spoiled = codes "spoiled"
 state_word blank.Discarded = codes "discarded"
 
--- ---- their lines
+-- ---- lines
 
--- the name of the session's record, at its place in its batch
+-- the name of the record of session `s`, at position `s.place` of its batch
 abbrev pub record_for : Tables → StoredSession → Option (List ℕ)
 record_for t s = option_map (λ (r : StoredRecord). r.name) (slice_get (filter (is_record_of s.batch) t.records) s.place)
 
--- the name of the session's batch: ids begin at 1
+-- the name of the batch of session `s`; batch ids start at 1
 abbrev pub batch_for : Tables → StoredSession → Option (List ℕ)
 batch_for t s = option_map (λ (b : StoredBatch). b.name) (slice_get t.batches (s.batch - 1))
 
@@ -90,7 +92,7 @@ blank_line t c = record {
       ∷ name_cell (codes "record") (option_and_then (record_for t) c.on) ∷ name_cell (codes "batch") (option_and_then (batch_for t) c.on) ∷ [];
 }
 
--- all of them, or those that stand so
+-- `c` is in the given state, or no state is given.
 abbrev pub is_wanted : Option BlankState → Charge → Bool
 is_wanted None c = true
 is_wanted (Some state) c = stands_so state c
@@ -98,19 +100,20 @@ is_wanted (Some state) c = stands_so state c
 abbrev pub wanted_text : Form → Tables → Option BlankState → Charge → List ℕ
 wanted_text form t state c = if is_wanted state c then line_text form (blank_line t c) else []
 
--- ---- their sums
+-- ---- sums
 
 abbrev pub count_so : BlankState → List Charge → ℕ
 count_so state charges = length (filter (stands_so state) charges)
 
--- the blanks of the product's lots
+-- the number of blanks in `l` if it is a lot of the product `p`, otherwise 0
 abbrev pub share_for : List ℕ → StoredLot → ℕ
 share_for p l = if is_lot_for p l then l.lot.count else 0
 
 abbrev pub blanks_for : List ℕ → List StoredLot → ℕ
 blanks_for p lots = sum_by (share_for p) lots
 
--- how the product's lots and its charged blanks are counted
+-- the counters of the blanks of the product `p`, from its lots in `lots` and its charged blanks
+-- `charges`
 abbrev pub totals_by : List ℕ → List StoredLot → List Charge → BlankTotals
 totals_by p lots charges = record {
   lots = length (filter (is_lot_for p) lots);
@@ -121,13 +124,15 @@ totals_by p lots charges = record {
   discarded = count_so blank.Discarded charges;
 }
 
--- they are counted so, each charged blank is counted in one state, and it stands there once
+-- The rows of `t` give the counters `totals` for the blanks of the product `p`. Each charged blank
+-- is counted in exactly one state, and no two charged blanks have the same serial.
 pub record IsAccount (t : Tables) (p : List ℕ) (totals : BlankTotals) : Type 0 where
   pub sums : totals_by p t.lots (charges_of t p) ≡ totals
   pub charged : length (charges_of t p) ≡ totals.good + totals.running + totals.spoiled + totals.discarded
   pub once : AllPairs (λ (a b : Charge). a.blank.serial ≢ b.blank.serial) (charges_of t p)
 
--- of the product's lots, and of its charged blanks
+-- the line with the sums of the product `p`, from its lots in `lots` and its charged blanks
+-- `charges`
 abbrev pub sums_line : List ℕ → List StoredLot → List Charge → Line
 sums_line p lots charges = record {
   kind = codes "sums";
@@ -137,12 +142,12 @@ sums_line p lots charges = record {
       ∷ number_cell (codes "discarded") (count_so blank.Discarded charges) ∷ [];
 }
 
--- ---- all of it
+-- ---- complete output
 
 abbrev pub blanks_text : Form → Tables → List ℕ → Option BlankState → List ℕ
 blanks_text form t p state =
     flat_map (wanted_text form t state) (charges_of t p) ++ line_text form (sums_line p t.lots (charges_of t p))
 
--- of a product that is there
+-- the output for the product `p`, or `None` if the product doesn't exist
 abbrev pub blanks_of : Form → Tables → List ℕ → Option BlankState → Option (List ℕ)
 blanks_of form t p state = option_map (λ (product : Product). blanks_text form t p state) (product_named t.products p)

@@ -1,4 +1,5 @@
--- What holds of rows before lines are made of them: they are those of sound contents, in order.
+-- Rows that lines are made from: they represent sound contents, and they are sorted so that they
+-- can be searched.
 use Rattle.table_rows.specs.Tables.{Tables}
 use Rattle.audit_laws.specs.Audited.{IsAudited}
 use Rattle.audit_order.specs.Order.{AreReady, AreSorted}

@@ -1,4 +1,5 @@
--- What `cards` prints: for each record of a batch, in file order, each of its sessions in the order in which they were opened.
+-- The output of `shopbook cards`: a line for each session of a batch, by its records in file order,
+-- and for each record in the order in which its sessions were opened.
 use Rattle.std.specs.Prelude.{ℕ, ◌-◌, List, [], ◌∷◌, codes, filter, find, flat_map, length, map, slice_get, Option, option_map}
 use Rattle.table_rows.specs.Keys.{is_batch_named, is_record_of}
 use Rattle.table_rows.specs.Tables.{StoredBatch, StoredRecord, StoredSession, Tables}
@@ -7,7 +8,7 @@ use Rattle.book_lines.specs.declared.form.Form.{Form}
 use Rattle.book_lines.specs.Blanks.{stands_by, state_word}
 use Rattle.book_lines.specs.Lines.{Line, lines_by, number_cell, status_cell, word_cell}
 
--- a card: its record, its session, and the last status word that the session has
+-- a card: a record, one of its sessions, and the last status word of the session, if it has one
 pub record Card : Type 0 where
   pub rec : StoredRecord
   pub session : StoredSession
@@ -19,7 +20,7 @@ last_word t s = slice_get (words_of t.words s.id) (length (words_of t.words s.id
 abbrev pub card_of : Tables → StoredRecord → StoredSession → Card
 card_of t r s = record { rec = r; session = s; last = last_word t s }
 
--- a card for each session of a record
+-- the cards of the record `r`, one for each session
 abbrev pub record_cards : Tables → StoredRecord → List Card
 record_cards t r = map (card_of t r) (filter (is_session_at r.batch r.place) t.sessions)
 
@@ -37,6 +38,6 @@ card_line c = record {
 abbrev pub cards_text : Form → Tables → StoredBatch → List ℕ
 cards_text form t b = lines_by form card_line (batch_cards t b)
 
--- of a batch that is there
+-- the output for the batch `name`, or `None` if the batch doesn't exist
 abbrev pub cards_of : Form → Tables → List ℕ → Option (List ℕ)
 cards_of form t name = option_map (cards_text form t) (find (is_batch_named name) t.batches)

@@ -1,4 +1,4 @@
--- A line of the book, in columns or as JSON (this project's profile). It ends in LF.
+-- A line of `shopbook`, in columns or as JSON (this project's profile). It ends with LF.
 use Rattle.std.specs.Prelude.{ℕ, ◌/◌, ◌%◌, List, [], ◌∷◌, ◌++◌, codes, Option, Some, None}
 use Rattle.std.specs.List.{flat_map}
 use Rattle.std.specs.Fmt.{decimal}
@@ -6,7 +6,7 @@ use Rattle.hex.specs.Hex.{encode_upper}
 use Rattle.book_lines.specs.declared.form.Form.{Form}
 use Rattle.book_lines.specs.declared.form.Form.TheVariants.{Columns, Json}
 
--- what a cell shows: nothing, a number, a word of plain characters, or a status word of a card
+-- the value of a cell: nothing, a number, a word of plain characters, or the status word of a card
 pub data Shown : Type 0 where
   Nothing : Shown
   Number : (n : ℕ) → Shown
@@ -39,36 +39,36 @@ abbrev pub status_cell : List ℕ → Option ℕ → Cell
 status_cell key None = record { key = key; shown = Nothing }
 status_cell key (Some sw) = record { key = key; shown = Status sw }
 
--- a status word in four hexadecimal digits
+-- the status word `sw` as four uppercase hexadecimal digits
 abbrev pub status_text : ℕ → List ℕ
 status_text sw = encode_upper (sw / 256 ∷ sw % 256 ∷ [])
 
--- ---- in columns
+-- ---- columns
 
--- nothing is shown as `-`
+-- the text of a value in columns; `Nothing` is shown as `-`
 abbrev pub column_text : Shown → List ℕ
 column_text Nothing = codes "-"
 column_text (Number n) = decimal n
 column_text (Word word) = word
 column_text (Status sw) = status_text sw
 
--- ---- as JSON (RFC 8259)
+-- ---- JSON (RFC 8259)
 
--- plain characters need no escape
+-- the JSON value of a cell; a word has only plain characters, which need no escape
 abbrev pub member_text : Shown → List ℕ
 member_text Nothing = codes "null"
 member_text (Number n) = decimal n
 member_text (Word word) = codes "\"" ++ word ++ codes "\""
 member_text (Status sw) = codes "\"" ++ status_text sw ++ codes "\""
 
--- ---- in both forms
+-- ---- both forms
 
--- in columns after a space; in JSON a member
+-- in columns, a space and the value; in JSON, a member
 abbrev pub cell_text : Form → Cell → List ℕ
 cell_text Columns c = codes " " ++ column_text c.shown
 cell_text Json c = codes ",\"" ++ c.key ++ codes "\":" ++ member_text c.shown
 
--- the kind stands first
+-- the start of a line, which contains its kind
 abbrev pub kind_text : Form → List ℕ → List ℕ
 kind_text Columns kind = kind
 kind_text Json kind = codes "{\"line\":\"" ++ kind ++ codes "\""
@@ -80,8 +80,8 @@ end_text Json = codes "}\n"
 abbrev pub line_text : Form → Line → List ℕ
 line_text form l = kind_text form l.kind ++ flat_map (cell_text form) l.cells ++ end_text form
 
--- ---- lines one after the other
+-- ---- several lines
 
--- each with its line
+-- the lines of all elements of `xs`, in order
 abbrev pub lines_by : {X : Type 0} → Form → (X → Line) → List X → List ℕ
 lines_by form line xs = flat_map (λ x. line_text form (line x)) xs

@@ -1,4 +1,5 @@
--- What `list` prints: each product, each lot with its free, used and discarded blanks, and each batch with its account, in the order of the rows.
+-- The output of `shopbook list`: a line for each product, for each lot with its free, used and
+-- discarded blanks, and for each batch with its account, in the order of rows.
 use Rattle.std.specs.Prelude.{ℕ, ◌-◌, Bool, true, false, List, [], ◌∷◌, ◌++◌, codes, filter, length}
 use Rattle.store_data.specs.declared.row.Product.{Product}
 use Rattle.job_facts.specs.States.{is_in}
@@ -22,11 +23,11 @@ product_line p = record {
 
 -- ---- lots
 
--- the charged blanks of a lot
+-- the charged blanks in the lot `l`
 abbrev pub charged_in : StoredLot → List StoredBlank → List StoredBlank
 charged_in l blanks = filter (λ (b : StoredBlank). is_in b.serial l.lot) blanks
 
--- used are those that sessions opened
+-- the line of the lot `l`; its used blanks are the ones that a session charged
 abbrev pub lot_line : List StoredBlank → StoredLot → Line
 lot_line blanks l = record {
   kind = codes "lot";
@@ -50,7 +51,7 @@ batch_line t b = record {
       ∷ number_cell (codes "sessions") b.sessions ∷ number_cell (codes "spoiled") b.spoiled ∷ [];
 }
 
--- ---- all of it
+-- ---- complete output
 
 abbrev pub list_text : Form → Tables → List ℕ
 list_text form t = lines_by form product_line t.products ++ lines_by form (lot_line t.blanks) t.lots ++ lines_by form (batch_line t) t.batches

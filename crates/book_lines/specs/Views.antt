@@ -1,4 +1,4 @@
--- How the code's values are seen.
+-- Converts cell values of the code to cell values of the definitions.
 use Rattle.book_lines.specs.Lines.{Shown, Nothing, Number, Word, Status}
 use Rattle.book_lines.specs.declared.shown.Shown.{Shown as Given}
 use Rattle.book_lines.specs.declared.shown.Shown.TheVariants as given

@@ -1,24 +1,24 @@
-//! How a charged blank stands.
+//! The state of a charged blank.
 ghost use Rattle.std.specs.Prelude.{◌≡◌};
 ghost use Rattle.book_lines.specs.Blanks.{stands_by, state_word};
 
 use job_facts::SessionState;
 
-/// How a charged blank stands.
+/// The state of a charged blank.
 #[derive(Clone, Copy, Debug, PartialEq, Eq)]
 pub enum BlankState {
-    /// A session on it runs.
+    /// A blank with a running session.
     Running,
-    /// It is a finished card.
+    /// A finished card.
     Good,
-    /// It is a card that is to be destroyed.
+    /// A spoiled card, which must be destroyed.
     Spoiled,
-    /// It was never a card, and is to be destroyed.
+    /// A discarded blank. It was never a card, and must be destroyed.
     Discarded,
 }
 
 impl BlankState {
-    /// The word that people read.
+    /// Returns the word for the state in the output, such as `good`.
     pub fn word(self) -> &'static str
         ensures { result.now ≡ state_word self }
     {
@@ -31,7 +31,7 @@ impl BlankState {
     }
 }
 
-/// How a blank stands by the session on it.
+/// Returns the state of a blank whose session has the state `state`.
 pub fn stands_by(state: SessionState) -> BlankState
     ensures { result ≡ stands_by state }
 {

@@ -1,4 +1,4 @@
-//! The lines of a product's charged blanks, and their sums.
+//! The output of `shopbook blanks`: the charged blanks of a product, and their sums.
 ghost use Rattle.std.specs.Prelude.{◌≡◌, ◌∷◌, ◌++◌, ◌<◌, ◌^◌, [], ℕ, IfOk, List, OnOk};
 ghost use Rattle.std.specs.Prelude.{bytes_eq, filter, if◌then◌else◌};
 ghost use Rattle.std.specs.Prelude.{flat_map, is_some, length, option_and_then, option_map, sum_by};
@@ -30,10 +30,16 @@ use std::alloc::{AllocError, Global};
 use store_data::Name;
 use table_rows::{StoredBlank, StoredLot, StoredSession, Tables};
 
-/// The lines of the charged blanks of a product, in the order of their serials: all, or those that
-/// stand so; and the sums of all. None where there is no such product. Each charged blank has one
-/// line, and the sums are the product's account by the facts. Time is the number of blanks, lots
-/// and sessions, times its logarithm.
+/// Returns the output of `shopbook blanks` for the product `product`, or `None` if the product
+/// doesn't exist. It has a line for each charged blank, in the order of serials, and a line with
+/// the sums. If `state` is given, only the blanks in this state have lines, but the sums include
+/// all blanks. The sums are equal to the product's account of blanks.
+///
+/// Takes O(n log n) time for n blanks, lots, records and sessions.
+///
+/// # Errors
+///
+/// Returns `AllocError` if an allocation fails.
 pub fn blanks_of(
     alloc: Global,
     form: Form,
@@ -55,13 +61,12 @@ pub fn blanks_of(
     Ok(Some(text))
 }
 
-// By the facts that the rows are an image of, a product's sums are its account.
+// Lemma: the sums of a product are its account, for any contents that the rows represent.
 fn sums_are_accounts()
     ensures { (t : TablesValue) (c : Contents) (p : List ℕ) → IsBook t → AreSound c
         → HaveSameRows t (image c) → IsAccount t p (blank_totals c.facts p) }
 {}
 
-// Whether there is such a product.
 fn has_product(tables: &Tables, product: &Name) -> bool
     requires { AreReady tables.now }
     ensures { result ≡ is_some (product_named tables.now.products product.now) }
@@ -69,7 +74,7 @@ fn has_product(tables: &Tables, product: &Name) -> bool
     product_named(&tables.products, product.bytes()).is_some()
 }
 
-// The lines and the sums of a product that is there.
+// Returns the lines and the sums of the product `product`.
 fn blanks_text(
     alloc: Global,
     form: Form,
@@ -90,7 +95,7 @@ fn blanks_text(
 
 // ---- charged blanks
 
-// The charged blanks of a product, in the order of their serials.
+// Returns the charged blanks of the product `product`, in the order of serials.
 fn charges_of<'a>(
     alloc: Global,
     tables: &'a Tables,
@@ -111,7 +116,7 @@ fn charges_of<'a>(
     Ok(charges)
 }
 
-// Whether a blank is of a product.
+// Returns `true` if `blank` is in a lot of the product `product`.
 fn is_of(tables: &Tables, product: &Name, blank: &StoredBlank) -> bool
     requires { AreReady tables.now }
     ensures { result ≡ is_of tables.now product.now blank.now }
@@ -122,14 +127,14 @@ fn is_of(tables: &Tables, product: &Name, blank: &StoredBlank) -> bool
     }
 }
 
-// Whether a lot is for a product.
+// Returns `true` if `lot` is a lot of the product `product`.
 fn is_for(lot: &StoredLot, product: &Name) -> bool
     ensures { result ≡ is_lot_for product.now lot.now }
 {
     lot.product.as_slice() == product.bytes()
 }
 
-// A charged blank with its session.
+// Returns the charged blank `blank` with its session. A discarded blank has no session.
 fn charge_of<'a>(by_serial: &[Keyed<'a>], blank: &'a StoredBlank) -> Charge<'a>
     requires { IsNonDecreasingBy (λ (k : ℕ × SessionValue). k.0) by_serial.now }
     ensures { (t : TablesValue)
@@ -144,8 +149,13 @@ fn charge_of<'a>(by_serial: &[Keyed<'a>], blank: &'a StoredBlank) -> Charge<'a>
     Charge { blank, on }
 }
 
-/// The blanks charged to the batch with this id, in the order of their serials. Time is the number
-/// of blanks and sessions, times its logarithm.
+/// Returns the blanks charged to the batch with the id `id`, in the order of their rows.
+///
+/// Takes O(n log n) time for n blanks and sessions.
+///
+/// # Errors
+///
+/// Returns `AllocError` if an allocation fails.
 pub fn batch_charges(alloc: Global, tables: &Tables, id: u64) -> Result<Vec<Charge<'_>>, AllocError>
     ensures { IfOk result (λ charges. charges.items ≡ batch_charges tables.now id) }
 {
@@ -185,7 +195,7 @@ fn add_charge<'a>(
     Ok(())
 }
 
-// Whether a session of the batch with this id is on a blank.
+// Returns `true` if the session of the blank belongs to the batch with the id `id`.
 fn is_charged_to(charge: &Charge<'_>, id: u64) -> bool
     ensures { result ≡ is_charged_to id charge.now }
 {
@@ -195,7 +205,7 @@ fn is_charged_to(charge: &Charge<'_>, id: u64) -> bool
     }
 }
 
-// ---- their lines
+// ---- lines
 
 fn push_blanks<'a>(
     text: &mut Vec<u8>,
@@ -253,7 +263,7 @@ fn push_blank<'a>(
     push_line(text, form, "blank", &blank_cells(tables, charge))
 }
 
-/// The cells of a blank's line.
+/// Returns the cells of the line of a charged blank.
 pub fn blank_cells<'a>(tables: &'a Tables, charge: &Charge<'a>) -> [Cell<'a>; 5]
     requires { AreReady tables.now }
     ensures { result ≡ (blank_line tables.now charge.now).cells }
@@ -268,7 +278,7 @@ pub fn blank_cells<'a>(tables: &'a Tables, charge: &Charge<'a>) -> [Cell<'a>; 5]
     ]
 }
 
-// The name of the record that a blank was opened for.
+// Returns the name of the record that the blank was charged for, if it has a session.
 fn record_on<'a>(tables: &'a Tables, charge: &Charge<'_>) -> Option<&'a [u8]>
     requires { AreReady tables.now }
     ensures { option_map (λ n. n.now) result
@@ -280,7 +290,7 @@ fn record_on<'a>(tables: &'a Tables, charge: &Charge<'_>) -> Option<&'a [u8]>
     }
 }
 
-// The name of its batch.
+// Returns the name of the batch that the blank is charged to, if it has a session.
 fn batch_on<'a>(tables: &'a Tables, charge: &Charge<'_>) -> Option<&'a [u8]>
     ensures { option_map (λ n. n.now) result
         ≡ option_and_then (batch_for tables.now) charge.now.on }
@@ -291,7 +301,7 @@ fn batch_on<'a>(tables: &'a Tables, charge: &Charge<'_>) -> Option<&'a [u8]>
     }
 }
 
-// The name of a session's record.
+// Returns the name of the record of `session`.
 fn record_for<'a>(tables: &'a Tables, session: &StoredSession) -> Option<&'a [u8]>
     requires { AreReady tables.now }
     ensures { option_map (λ n. n.now) result ≡ record_for tables.now session.now }
@@ -301,7 +311,7 @@ fn record_for<'a>(tables: &'a Tables, session: &StoredSession) -> Option<&'a [u8
     Some(&record.name)
 }
 
-// The name of a session's batch.
+// Returns the name of the batch of `session`.
 fn batch_for<'a>(tables: &'a Tables, session: &StoredSession) -> Option<&'a [u8]>
     ensures { option_map (λ n. n.now) result ≡ batch_for tables.now session.now }
 {
@@ -311,7 +321,7 @@ fn batch_for<'a>(tables: &'a Tables, session: &StoredSession) -> Option<&'a [u8]
     Some(&batch.name)
 }
 
-// ---- their sums
+// ---- sums
 
 fn push_sums(
     text: &mut Vec<u8>,
@@ -337,14 +347,14 @@ fn push_sums(
     push_line(text, form, "sums", &cells)
 }
 
-// How many lots a product has.
+// Returns the number of lots of the product `product`.
 fn lots_for(lots: &[StoredLot], product: &Name) -> u64
     ensures { result ≡ length (filter (is_lot_for product.now) lots.now) }
 {
     lots.iter().filter(|lot| is_for(lot, product)).count() as u64
 }
 
-// How many blanks these have.
+// Returns the number of blanks in the lots of the product `product`.
 fn blanks_for(lots: &[StoredLot], product: &Name) -> u64
     requires { sum_by (λ (l : LotValue). l.lot.count) lots.now < 2 ^ 64 }
     ensures { result ≡ blanks_for product.now lots.now }
@@ -357,7 +367,7 @@ fn blanks_for(lots: &[StoredLot], product: &Name) -> u64
     total
 }
 
-// How many blanks of a lot are for a product.
+// Returns the number of blanks in `lot` if it is a lot of the product `product`, otherwise 0.
 fn share_for(lot: &StoredLot, product: &Name) -> u64
     ensures { result ≡ share_for product.now lot.now }
 {
@@ -368,7 +378,7 @@ fn share_for(lot: &StoredLot, product: &Name) -> u64
     }
 }
 
-// How many of these blanks stand so.
+// Returns the number of charged blanks in the state `state`.
 fn count_so(charges: &[Charge<'_>], state: BlankState) -> u64
     ensures { result ≡ count_so state charges.now }
 {

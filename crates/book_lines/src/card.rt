@@ -1,4 +1,4 @@
-//! A card: a session of a record, with the last status word that it has.
+//! A card: a session of a record, with its last status word.
 ghost use Rattle.std.specs.Prelude.{◌≡◌};
 ghost use Rattle.audit_order.specs.Order.{AreReady};
 ghost use Rattle.book_lines.specs.Cards.{card_of, last_word};
@@ -7,11 +7,14 @@ use audit_order::range_of;
 use std::marker::Model;
 use table_rows::{StoredRecord, StoredSession, Tables};
 
-/// A card: a session of a record, with the last status word that it has.
+/// A card: a session of a record, with its last status word.
 #[derive(Drop)]
 pub struct Card<'a> {
+    /// The record.
     pub rec: &'a StoredRecord,
+    /// The session.
     pub session: &'a StoredSession,
+    /// The last status word of the session, if it has one.
     pub last: Option<u16>,
 }
 
@@ -23,7 +26,7 @@ impl<'a> Model for Card<'a> {
     ghost view = { λ c. record { rec = c.rec.now; session = c.session.now; last = c.last } };
 }
 
-/// The card of a session of this record.
+/// Returns the card of `session`, which is a session of the record `rec`.
 pub(crate) fn card_of<'a>(
     tables: &Tables,
     rec: &'a StoredRecord,
@@ -36,7 +39,7 @@ pub(crate) fn card_of<'a>(
     Card { rec, session, last }
 }
 
-// The last status word that a session has.
+// Returns the last status word of `session`, if it has one.
 fn last_word(tables: &Tables, session: &StoredSession) -> Option<u16>
     requires { AreReady tables.now }
     ensures { result ≡ last_word tables.now session.now }

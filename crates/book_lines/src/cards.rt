@@ -1,4 +1,4 @@
-//! The lines of a batch's cards: each session of each record.
+//! The output of `shopbook cards`: the sessions of each record of a batch.
 ghost use Rattle.std.specs.Prelude.{◌≡◌, ◌++◌, ℕ, All, IfOk, OnOk, filter, find, flat_map};
 ghost use Rattle.std.specs.Prelude.{map, option_map};
 ghost use Rattle.table_rows.specs.Keys.{is_batch_named};
@@ -22,9 +22,15 @@ use std::alloc::{AllocError, Global};
 use store_data::Name;
 use table_rows::{StoredBatch, StoredRecord, Tables};
 
-/// The lines of the cards of a batch, by its records in file order: each session with how many
-/// status words it has, and the last of them. None where there is no such batch. Time is the number
-/// of sessions, of the batch's records and of words, times their logarithms.
+/// Returns the output of `shopbook cards` for the batch `batch`, or `None` if the batch doesn't
+/// exist. It has a line for each session, by its records in file order, with the number of its
+/// status words and the last of them.
+///
+/// Takes O(n log n) time for n sessions, records of the batch and status words.
+///
+/// # Errors
+///
+/// Returns `AllocError` if an allocation fails.
 pub fn cards_of(
     alloc: Global,
     form: Form,
@@ -44,7 +50,7 @@ pub fn cards_of(
     }
 }
 
-/// The batch of this name.
+/// Returns the batch with the name `batch`, if it is in `batches`.
 pub fn batch_named<'a>(batches: &'a [StoredBatch], batch: &Name) -> Option<&'a StoredBatch>
     ensures { option_map (λ b. b.now) result ≡ find (is_batch_named batch.now) batches.now }
 {
@@ -53,7 +59,6 @@ pub fn batch_named<'a>(batches: &'a [StoredBatch], batch: &Name) -> Option<&'a S
         .find(|row| row.name.as_slice() == batch.bytes())
 }
 
-// The lines of a batch that is there.
 fn cards_text(
     alloc: Global,
     form: Form,
@@ -71,8 +76,14 @@ fn cards_text(
 
 // ---- cards
 
-/// The cards of a batch, by its records in file order. Time is the number of sessions, of the
-/// batch's records and of words, times their logarithms.
+/// Returns the cards of the batch `batch`, by its records in file order. The cards of one record
+/// are in the order in which their sessions were opened.
+///
+/// Takes O(n log n) time for n sessions, records of the batch and status words.
+///
+/// # Errors
+///
+/// Returns `AllocError` if an allocation fails.
 pub fn batch_cards<'a>(
     alloc: Global,
     tables: &'a Tables,
@@ -88,7 +99,8 @@ pub fn batch_cards<'a>(
     Ok(cards)
 }
 
-// Adds the cards of records of one batch, whose sessions stand under their places.
+// Adds the cards of `records`, which all belong to the batch with the id `id`. `by_place` contains
+// the sessions of this batch, keyed by the positions of their records.
 fn add_records<'a>(
     cards: &mut Vec<Card<'a>>,
     tables: &'a Tables,
@@ -109,7 +121,7 @@ fn add_records<'a>(
     Ok(())
 }
 
-// Adds the cards of a record.
+// Adds the cards of the record `rec`.
 fn add_record<'a>(
     cards: &mut Vec<Card<'a>>,
     tables: &'a Tables,
@@ -125,7 +137,7 @@ fn add_record<'a>(
     add_sessions(cards, tables, rec, range_of(by_place, rec.place))
 }
 
-// Adds the cards of these sessions of a record.
+// Adds the cards of `sessions`, which all belong to the record `rec`.
 fn add_sessions<'a>(
     cards: &mut Vec<Card<'a>>,
     tables: &'a Tables,
@@ -142,7 +154,7 @@ fn add_sessions<'a>(
     Ok(())
 }
 
-// ---- their lines
+// ---- lines
 
 fn push_cards(text: &mut Vec<u8>, form: Form, cards: &[Card<'_>]) -> Result<(), AllocError>
     ensures { OnOk result
@@ -161,7 +173,7 @@ fn push_card(text: &mut Vec<u8>, form: Form, card: &Card<'_>) -> Result<(), Allo
     push_line(text, form, "card", &card_cells(card))
 }
 
-/// The cells of a card's line.
+/// Returns the cells of the line of `card`.
 pub fn card_cells<'a>(card: &Card<'a>) -> [Cell<'a>; 7]
     ensures { result ≡ (card_line card.now).cells }
 {

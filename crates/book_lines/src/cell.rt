@@ -1,4 +1,4 @@
-//! A cell of a line: its key, and what it shows.
+//! A cell of a line: a key and a value.
 ghost use Rattle.std.specs.Prelude.{◌≡◌, option_map};
 ghost use Rattle.book_lines.specs.Lines.{Nothing, name_cell, number_cell, optional_cell};
 ghost use Rattle.book_lines.specs.Lines.{status_cell, word_cell};
@@ -9,7 +9,9 @@ use std::marker::Model;
 /// A cell of a line.
 #[derive(Drop)]
 pub struct Cell<'a> {
+    /// The key, which is the name of the member in JSON.
     pub key: &'a str,
+    /// The value.
     pub shown: Shown<'a>,
 }
 
@@ -22,7 +24,7 @@ impl<'a> Model for Cell<'a> {
     ghost view = { λ c. record { key = c.key.now; shown = shown_of c.shown } };
 }
 
-/// A cell with a number.
+/// Returns a cell with a number.
 pub(crate) fn number(key: &str, number: u64) -> Cell<'_>
     ensures { result ≡ number_cell key.now number }
 {
@@ -32,7 +34,7 @@ pub(crate) fn number(key: &str, number: u64) -> Cell<'_>
     }
 }
 
-/// A cell with a word.
+/// Returns a cell with a word of plain characters.
 pub(crate) fn word<'a>(key: &'a str, word: &'a [u8]) -> Cell<'a>
     ensures { result ≡ word_cell key.now word.now }
 {
@@ -42,7 +44,7 @@ pub(crate) fn word<'a>(key: &'a str, word: &'a [u8]) -> Cell<'a>
     }
 }
 
-/// A cell with a name, or with nothing where there is none.
+/// Returns a cell with a name, or an empty cell if `name` is `None`.
 pub(crate) fn name<'a>(key: &'a str, name: Option<&'a [u8]>) -> Cell<'a>
     ensures { result ≡ name_cell key.now (option_map (λ n. n.now) name.entry) }
 {
@@ -52,7 +54,7 @@ pub(crate) fn name<'a>(key: &'a str, name: Option<&'a [u8]>) -> Cell<'a>
     }
 }
 
-/// A cell with a number, or with nothing where there is none.
+/// Returns a cell with a number, or an empty cell if `number` is `None`.
 pub(crate) fn optional(key: &str, number: Option<u64>) -> Cell<'_>
     ensures { result ≡ optional_cell key.now number }
 {
@@ -65,7 +67,7 @@ pub(crate) fn optional(key: &str, number: Option<u64>) -> Cell<'_>
     }
 }
 
-/// A cell with a status word of a card, or with nothing where there is none.
+/// Returns a cell with the status word of a card, or an empty cell if `sw` is `None`.
 pub(crate) fn status(key: &str, sw: Option<u16>) -> Cell<'_>
     ensures { result ≡ status_cell key.now sw }
 {
@@ -78,7 +80,7 @@ pub(crate) fn status(key: &str, sw: Option<u16>) -> Cell<'_>
     }
 }
 
-// A cell with nothing.
+// Returns an empty cell.
 fn nothing(key: &str) -> Cell<'_>
     ensures { result ≡ record { key = key.now; shown = Nothing } }
 {

@@ -1,4 +1,4 @@
-//! A charged blank, and the session that is on it.
+//! A charged blank with its session.
 ghost use Rattle.std.specs.Prelude.{◌≡◌};
 ghost use Rattle.book_lines.specs.Blanks.{stands_on, stands_so};
 
@@ -6,10 +6,12 @@ use crate::blank_state::{BlankState, stands_by};
 use std::marker::Model;
 use table_rows::{StoredBlank, StoredSession};
 
-/// A charged blank, and the session that is on it: none where it is discarded.
+/// A charged blank with its session.
 #[derive(Drop)]
 pub struct Charge<'a> {
+    /// The blank.
     pub blank: &'a StoredBlank,
+    /// The session that charged the blank, or `None` if the blank is discarded.
     pub on: Option<&'a StoredSession>,
 }
 
@@ -23,7 +25,7 @@ impl<'a> Model for Charge<'a> {
 }
 
 impl<'a> Charge<'a> {
-    /// How the blank stands.
+    /// Returns the state of the blank.
     pub fn stands(&self) -> BlankState
         ensures { result ≡ stands_on self.now.on }
     {
@@ -33,7 +35,7 @@ impl<'a> Charge<'a> {
         }
     }
 
-    /// Whether the blank stands so.
+    /// Returns `true` if the blank is in the state `state`.
     pub fn stands_so(&self, state: BlankState) -> bool
         ensures { result ≡ stands_so state self.now }
     {

@@ -1,8 +1,8 @@
-//! A name under which requests were asked.
+//! The name of a client.
 
 use std::marker::Model;
 
-/// A name under which requests were asked: a machine's or an office's.
+/// The name of a client, which is a machine or an office.
 #[derive(Drop)]
 pub(crate) struct Client<'a> {
     pub(crate) name: &'a [u8],

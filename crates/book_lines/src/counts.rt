@@ -1,4 +1,5 @@
-//! The lines of the verdict, of the rows of each table, and of how much more may be made.
+//! The output of `shopbook check`: the verdict, the number of rows in each table, and the numbers
+//! of products, lots and batches that can still be added.
 ghost use Rattle.std.specs.Prelude.{◌≡◌, ◌++◌, IfOk, OnOk, codes, option_map};
 ghost use Rattle.audit_rows.specs.RuleNames.{name_of};
 ghost use Rattle.book_lines.specs.Counts.{check_text, count_line, file_line, room_in, rows_in};
@@ -13,13 +14,13 @@ use std::alloc::{AllocError, Global};
 use std::marker::Model;
 use table_rows::Tables;
 
-/// How many products there may be.
+/// The maximum number of products.
 const MOST_PRODUCTS: usize = 256;
 
-/// How many lots, and how many batches, there may be.
+/// The maximum number of lots, and of batches.
 const MOST_NAMED: usize = 4096;
 
-/// What is counted, and how many of it there are.
+/// A number with the name of what it counts.
 #[derive(Drop)]
 struct Count<'a> {
     name: &'a str,
@@ -34,8 +35,13 @@ impl<'a> Model for Count<'a> {
     ghost view = { λ c. (c.name.now, c.count) };
 }
 
-/// The lines of a file of this version, whose rows break this rule first or none: the verdict, how
-/// many rows each table has, and how many more products, lots and batches may be made.
+/// Returns the output of `shopbook check` for a database with the schema version `version`. It has
+/// the verdict with the first rule that the rows break (`failing`), the number of rows in each
+/// table, and the numbers of products, lots and batches that can still be added.
+///
+/// # Errors
+///
+/// Returns `AllocError` if an allocation fails.
 pub fn check_text(
     alloc: Global,
     form: Form,

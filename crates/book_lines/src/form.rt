@@ -1,9 +1,9 @@
-//! The forms of the book's lines.
+//! The two forms of output lines.
 
-/// How lines are written.
+/// The form of output lines.
 #[derive(Clone, Copy, Debug, PartialEq, Eq)]
 pub enum Form {
-    /// Words and numbers, each after a space.
+    /// The kind of the line, followed by its values, each after a space.
     Columns,
     /// A JSON object (RFC 8259).
     Json,

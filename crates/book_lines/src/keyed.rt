@@ -1,4 +1,4 @@
-//! Sessions under a number by which they are looked up.
+//! Sessions keyed by a number, for look-ups by binary search.
 ghost use Rattle.std.specs.Prelude.{◌≡◌, ◌∷◌, [], ℕ, IfOk, List, filter, map, option_map};
 ghost use Rattle.std.specs.Prelude.{slice_get};
 ghost use Rattle.audit_laws.specs.Audited.{is_session_of};
@@ -12,7 +12,7 @@ use std::alloc::{AllocError, Global};
 use std::marker::Model;
 use table_rows::StoredSession;
 
-/// A session under a number.
+/// A session with its key.
 #[derive(Drop)]
 pub(crate) struct Keyed<'a> {
     pub(crate) number: u64,
@@ -28,7 +28,7 @@ impl<'a> Model for Keyed<'a> {
     ghost view = { λ k. (k.number, k.row.now) };
 }
 
-/// Sessions are sorted by their numbers.
+/// Sorts keyed sessions by their keys.
 impl<'a> InOrder for Keyed<'a> {
     ghost key = { λ k. k.0 ∷ 0 ∷ 0 ∷ [] };
 
@@ -37,7 +37,7 @@ impl<'a> InOrder for Keyed<'a> {
     }
 }
 
-/// Sessions are found by their numbers.
+/// Finds keyed sessions by their keys.
 impl<'a> Ranged for Keyed<'a> {
     ghost number = { λ k. k.0 };
 
@@ -46,7 +46,7 @@ impl<'a> Ranged for Keyed<'a> {
     }
 }
 
-// The sessions under their serials, in their order.
+// Returns the sessions keyed by serial, in the order of `sessions`.
 fn serials(alloc: Global, sessions: &[StoredSession]) -> Result<Vec<Keyed<'_>>, AllocError>
     ensures { IfOk result
         (λ keyed. keyed.items ≡ map (λ (s : SessionValue). (s.serial, s)) sessions.now) }
@@ -61,7 +61,11 @@ fn serials(alloc: Global, sessions: &[StoredSession]) -> Result<Vec<Keyed<'_>>, 
     Ok(keyed)
 }
 
-/// The sessions by their serials.
+/// Returns the sessions keyed by serial, and sorted by their keys.
+///
+/// # Errors
+///
+/// Returns `AllocError` if an allocation fails.
 pub(crate) fn by_serial(
     alloc: Global,
     sessions: &[StoredSession],
@@ -74,7 +78,8 @@ pub(crate) fn by_serial(
     Ok(keyed)
 }
 
-// The sessions of a batch under their places, in their order.
+// Returns the sessions of the batch with the id `batch`, keyed by the positions of their records,
+// in the order of `sessions`.
 fn places(
     alloc: Global,
     sessions: &[StoredSession],
@@ -95,7 +100,12 @@ fn places(
     Ok(keyed)
 }
 
-/// The sessions of a batch by the places of their records.
+/// Returns the sessions of the batch with the id `batch`, keyed by the positions of their records,
+/// and sorted by their keys.
+///
+/// # Errors
+///
+/// Returns `AllocError` if an allocation fails.
 pub(crate) fn by_place(
     alloc: Global,
     sessions: &[StoredSession],
@@ -109,7 +119,7 @@ pub(crate) fn by_place(
     Ok(keyed)
 }
 
-/// The first session on this serial.
+/// Returns the first session on the blank `serial`.
 pub(crate) fn session_on<'a>(by_serial: &[Keyed<'a>], serial: u64) -> Option<&'a StoredSession>
     requires { IsNonDecreasingBy (λ (k : ℕ × SessionValue). k.0) by_serial.now }
     ensures { (sessions : List SessionValue)
@@ -119,7 +129,7 @@ pub(crate) fn session_on<'a>(by_serial: &[Keyed<'a>], serial: u64) -> Option<&'a
     first_row(range_of(by_serial, serial))
 }
 
-// The row of the first of these.
+// Returns the session of the first element.
 fn first_row<'a>(keyed: &[Keyed<'a>]) -> Option<&'a StoredSession>
     ensures { option_map (λ s. s.now) result
         ≡ option_map (λ (k : ℕ × SessionValue). k.1) (slice_get keyed.now 0) }

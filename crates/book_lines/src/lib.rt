@@ -1,4 +1,4 @@
-//! The lines of the shop's book: what auditors and the office read of rows of its tables.
+//! The lines of `shopbook`: text for auditors and the office, made from the rows of a database.
 #![tactic(auto)]
 
 mod blank_state;

@@ -1,4 +1,4 @@
-//! The text of a line.
+//! Appends lines to a text, in either form.
 ghost use Rattle.std.specs.Prelude.{◌≡◌, ◌++◌, OnOk, codes};
 ghost use Rattle.std.specs.List.{flat_map};
 ghost use Rattle.std.specs.Fmt.{decimal};
@@ -11,7 +11,11 @@ use crate::shown::Shown;
 use itoa::Buffer;
 use std::alloc::AllocError;
 
-/// Adds a line of this kind with these cells.
+/// Appends a line of the kind `kind` with the cells `cells`.
+///
+/// # Errors
+///
+/// Returns `AllocError` if an allocation fails. Part of the line may have been appended.
 pub(crate) fn push_line(
     text: &mut Vec<u8>,
     form: Form,
@@ -26,7 +30,7 @@ pub(crate) fn push_line(
     push_end(text, form)
 }
 
-// Adds the beginning of a line.
+// Appends the start of a line, which contains its kind.
 fn push_kind(text: &mut Vec<u8>, form: Form, kind: &str) -> Result<(), AllocError>
     ensures { OnOk result (text.new.items ≡ text.old.items ++ kind_text form kind.now) }
 {
@@ -36,7 +40,6 @@ fn push_kind(text: &mut Vec<u8>, form: Form, kind: &str) -> Result<(), AllocErro
     }
 }
 
-// Adds the end of a line.
 fn push_end(text: &mut Vec<u8>, form: Form) -> Result<(), AllocError>
     ensures { OnOk result (text.new.items ≡ text.old.items ++ end_text form) }
 {
@@ -46,7 +49,6 @@ fn push_end(text: &mut Vec<u8>, form: Form) -> Result<(), AllocError>
     }
 }
 
-// Adds cells.
 fn push_cells(text: &mut Vec<u8>, form: Form, cells: &[Cell<'_>]) -> Result<(), AllocError>
     ensures { OnOk result (text.new.items ≡ text.old.items ++ flat_map (cell_text form) cells.now) }
 {
@@ -56,7 +58,6 @@ fn push_cells(text: &mut Vec<u8>, form: Form, cells: &[Cell<'_>]) -> Result<(), 
     Ok(())
 }
 
-// Adds a cell.
 fn push_cell(text: &mut Vec<u8>, form: Form, cell: &Cell<'_>) -> Result<(), AllocError>
     ensures { OnOk result (text.new.items ≡ text.old.items ++ cell_text form cell.now) }
 {
@@ -72,7 +73,7 @@ fn push_cell(text: &mut Vec<u8>, form: Form, cell: &Cell<'_>) -> Result<(), Allo
     }
 }
 
-// Adds what a cell shows in its column.
+// Appends the value of `cell` as it is shown in columns.
 fn push_column(text: &mut Vec<u8>, cell: &Cell<'_>) -> Result<(), AllocError>
     ensures { OnOk result (text.new.items ≡ text.old.items ++ column_text cell.now.shown) }
 {
@@ -84,7 +85,7 @@ fn push_column(text: &mut Vec<u8>, cell: &Cell<'_>) -> Result<(), AllocError>
     }
 }
 
-// Adds what a cell shows as a JSON value.
+// Appends the value of `cell` as a JSON value.
 fn push_member(text: &mut Vec<u8>, cell: &Cell<'_>) -> Result<(), AllocError>
     ensures { OnOk result (text.new.items ≡ text.old.items ++ member_text cell.now.shown) }
 {
@@ -96,7 +97,11 @@ fn push_member(text: &mut Vec<u8>, cell: &Cell<'_>) -> Result<(), AllocError>
     }
 }
 
-/// Adds a number in decimal digits.
+/// Appends `number` in decimal digits.
+///
+/// # Errors
+///
+/// Returns `AllocError` if an allocation fails.
 pub fn push_number(text: &mut Vec<u8>, number: u64) -> Result<(), AllocError>
     ensures { OnOk result (text.new.items ≡ text.old.items ++ decimal number) }
 {
@@ -104,7 +109,11 @@ pub fn push_number(text: &mut Vec<u8>, number: u64) -> Result<(), AllocError>
     text.extend_from_slice(digits.format(number).as_bytes())
 }
 
-/// Adds a status word in four hexadecimal digits.
+/// Appends the status word `sw` as four uppercase hexadecimal digits.
+///
+/// # Errors
+///
+/// Returns `AllocError` if an allocation fails.
 pub fn push_status(text: &mut Vec<u8>, sw: u16) -> Result<(), AllocError>
     ensures { OnOk result (text.new.items ≡ text.old.items ++ status_text sw) }
 {
@@ -113,7 +122,7 @@ pub fn push_status(text: &mut Vec<u8>, sw: u16) -> Result<(), AllocError>
     text.extend_from_slice(digits.as_bytes())
 }
 
-// Adds a status word in quotation marks.
+// Appends the status word `sw` in quotation marks.
 fn push_quoted(text: &mut Vec<u8>, sw: u16) -> Result<(), AllocError>
     ensures { OnOk result
         (text.new.items ≡ text.old.items ++ codes "\"" ++ status_text sw ++ codes "\"") }
@@ -123,7 +132,7 @@ fn push_quoted(text: &mut Vec<u8>, sw: u16) -> Result<(), AllocError>
     text.extend_from_slice(b"\"")
 }
 
-// Adds one after the other.
+// Appends three texts, one after the other.
 fn push_three(
     text: &mut Vec<u8>,
     first: &[u8],

@@ -1,4 +1,4 @@
-//! The lines of products, lots and batches.
+//! The output of `shopbook list`: products, lots and batches.
 ghost use Rattle.std.specs.Prelude.{◌≡◌, ◌++◌, ◌+◌, ◌-◌, ◌≤◌, ◌^◌, IfOk, OnOk, All, filter, length};
 ghost use Rattle.std.specs.Prelude.{◌&&◌, nat_le, nat_lt};
 ghost use Rattle.std.specs.List.Sorted.{IsNonDecreasingBy};
@@ -17,8 +17,15 @@ use audit_order::range_of;
 use std::alloc::{AllocError, Global};
 use table_rows::{StoredBatch, StoredBlank, StoredLot, StoredProduct, Tables};
 
-/// The lines of products, lots and batches, in the order of their rows. Time is the number of all
-/// three, and of the charged blanks.
+/// Returns the output of `shopbook list`: a line for each product, lot and batch, in the order of
+/// their rows.
+///
+/// The time is linear in the number of products, lots, batches and charged blanks, except for a
+/// binary search for each lot and each batch.
+///
+/// # Errors
+///
+/// Returns `AllocError` if an allocation fails.
 pub fn list_text(alloc: Global, form: Form, tables: &Tables) -> Result<Vec<u8>, AllocError>
     requires ready { AreReady tables.now }
     requires sorted { AreSorted tables.now }
@@ -109,21 +116,21 @@ fn push_lot(
     push_line(text, form, "lot", &cells)
 }
 
-// How many blanks of a lot are not charged.
+// Returns the number of blanks in `lot` that aren't charged.
 fn free(lot: &StoredLot, charged: &[StoredBlank]) -> u64
     ensures { result ≡ lot.now.lot.count - length charged.now }
 {
     u64::from(lot.amount).saturating_sub(charged.len() as u64)
 }
 
-// How many of these blanks sessions opened.
+// Returns the number of blanks in `charged` that a session charged. The others are discarded.
 fn used(charged: &[StoredBlank]) -> u64
     ensures { result ≡ length (opened_rows charged.now) }
 {
     charged.iter().filter(|blank| !blank.discarded).count() as u64
 }
 
-// The charged blanks of a lot, in the order of their serials.
+// Returns the charged blanks in `lot`, in the order of serials.
 fn charged_in<'a>(blanks: &'a [StoredBlank], lot: &StoredLot) -> &'a [StoredBlank]
     requires rising { IsNonDecreasingBy (λ (b : BlankValue). b.serial) blanks.now }
     requires range { lot.now.lot.first + lot.now.lot.count ≤ 10 ^ 18 }
@@ -133,7 +140,7 @@ fn charged_in<'a>(blanks: &'a [StoredBlank], lot: &StoredLot) -> &'a [StoredBlan
     between(blanks, low, low + u64::from(lot.amount))
 }
 
-// The blanks whose serials are at least the one number, and below the other.
+// Returns the blanks whose serials are at least `low` and below `end`.
 fn between(blanks: &[StoredBlank], low: u64, end: u64) -> &[StoredBlank]
     requires { IsNonDecreasingBy (λ (b : BlankValue). b.serial) blanks.now }
     ensures { result.now
@@ -176,7 +183,7 @@ fn push_batch(
     push_line(text, form, "batch", &batch_cells(tables, batch))
 }
 
-/// The cells of a batch's line.
+/// Returns the cells of the line of `batch`.
 pub fn batch_cells<'a>(tables: &Tables, batch: &'a StoredBatch) -> [Cell<'a>; 11]
     requires { AreReady tables.now }
     ensures { result ≡ (batch_line tables.now batch.now).cells }
@@ -196,7 +203,7 @@ pub fn batch_cells<'a>(tables: &Tables, batch: &'a StoredBatch) -> [Cell<'a>; 11
     ]
 }
 
-/// How many records a batch has.
+/// Returns the number of records of `batch`.
 pub(crate) fn records(tables: &Tables, batch: &StoredBatch) -> u64
     requires { AreReady tables.now }
     ensures { result ≡ length (filter (is_record_of batch.now.id) tables.now.records) }
@@ -204,7 +211,7 @@ pub(crate) fn records(tables: &Tables, batch: &StoredBatch) -> u64
     range_of(&tables.records, batch.id).len() as u64
 }
 
-/// Whether a batch is closed, as people read it.
+/// Returns the word for the state of a batch: `closed` or `open`.
 pub fn open_or_closed(is_closed: bool) -> &'static str
     ensures { result.now ≡ open_or_closed is_closed }
 {

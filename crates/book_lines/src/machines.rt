@@ -1,4 +1,4 @@
-//! The lines of machines, and of whoever else asked under a client name.
+//! The output of `shopbook machines`: the machines and all other clients.
 ghost use Rattle.std.specs.Prelude.{◌≡◌, ◌++◌, ℕ, IfOk, List, OnOk, bytes_eq, filter, find};
 ghost use Rattle.std.specs.Prelude.{fold, length, map, max, option_map};
 ghost use Rattle.std.specs.List.{list_any};
@@ -20,16 +20,23 @@ use job_facts::SessionState;
 use std::alloc::{AllocError, Global};
 use table_rows::{StoredMark, StoredReply, StoredSession, Tables};
 
-/// The numbers of a boot: the k-th of boot 1 is 10,000,000 + k.
+/// The number of request numbers of each boot number. Request k of boot number 1 has the number
+/// 10,000,000 + k.
 const BOOT: u64 = 10_000_000;
 
-/// The greatest boot.
+/// The maximum boot number.
 const LAST_BOOT: u64 = 9_999_999_999;
 
-/// The lines of whoever asked, the machines of sessions first: the session that runs, the release
-/// mark, how many replies are kept, and the next boot. All are those of the contents that the rows
-/// are an image of, and no number of the next boot or of a later one is kept or released. Time is
-/// the number of who asked, times that of sessions, kept replies and marks.
+/// Returns the output of `shopbook machines`: a line for each client, the machines of sessions
+/// first. A line has the running session, the release mark, the number of kept replies, and the
+/// next boot number. They agree with the contents that the rows represent, and no request number of
+/// the next boot number or of a higher one is kept or released.
+///
+/// Takes O(c · n) time for c clients and n sessions, kept replies and release marks.
+///
+/// # Errors
+///
+/// Returns `AllocError` if an allocation fails.
 pub fn machines_text(alloc: Global, form: Form, tables: &Tables) -> Result<Vec<u8>, AllocError>
     ensures text { IfOk result (λ text. text.items ≡ machines_text form tables.now) }
     ensures machines { (c : Contents) (client : List ℕ) → AreSound c
@@ -42,15 +49,15 @@ pub fn machines_text(alloc: Global, form: Form, tables: &Tables) -> Result<Vec<u
     Ok(text)
 }
 
-// By the contents that the rows are an image of, each has its line.
+// Lemma: the line of each client agrees with the contents that the rows represent.
 fn lines_are_of_machines()
     ensures { (t : TablesValue) (c : Contents) (client : List ℕ) → AreSound c
         → HaveSameRows t (image c) → IsMachine t c client }
 {}
 
-// ---- who asked
+// ---- clients
 
-// Whoever asked, each once.
+// Returns all clients, each once.
 fn clients_of(alloc: Global, tables: &Tables) -> Result<Vec<Client<'_>>, AllocError>
     ensures { IfOk result (λ clients. clients.items ≡ clients_of tables.now) }
 {
@@ -61,7 +68,7 @@ fn clients_of(alloc: Global, tables: &Tables) -> Result<Vec<Client<'_>>, AllocEr
     Ok(clients)
 }
 
-// Adds the machines of sessions.
+// Adds the machines of `sessions`.
 fn add_machines<'a>(
     clients: &mut Vec<Client<'a>>,
     sessions: &'a [StoredSession],
@@ -75,7 +82,7 @@ fn add_machines<'a>(
     Ok(())
 }
 
-// Adds the clients of kept replies.
+// Adds the clients of the kept replies.
 fn add_askers<'a>(
     clients: &mut Vec<Client<'a>>,
     replies: &'a [StoredReply],
@@ -89,7 +96,7 @@ fn add_askers<'a>(
     Ok(())
 }
 
-// Adds the clients of marks.
+// Adds the clients of the release marks.
 fn add_releasers<'a>(
     clients: &mut Vec<Client<'a>>,
     marks: &'a [StoredMark],
@@ -103,7 +110,7 @@ fn add_releasers<'a>(
     Ok(())
 }
 
-// Adds a client, unless it is there.
+// Adds the client `name`, unless `clients` already contains it.
 fn add_client<'a>(clients: &mut Vec<Client<'a>>, name: &'a [u8]) -> Result<(), AllocError>
     ensures { OnOk result (clients.new.items ≡ with_key clients.old.items name.now) }
 {
@@ -113,14 +120,14 @@ fn add_client<'a>(clients: &mut Vec<Client<'a>>, name: &'a [u8]) -> Result<(), A
     Ok(())
 }
 
-// Whether a client is one of these.
+// Returns `true` if `clients` contains `name`.
 fn is_among(clients: &[Client<'_>], name: &[u8]) -> bool
     ensures { result ≡ list_any (bytes_eq name.now) clients.now }
 {
     clients.iter().any(|client| name == client.name)
 }
 
-// ---- their lines
+// ---- lines
 
 fn push_machines(
     text: &mut Vec<u8>,
@@ -156,7 +163,7 @@ fn push_machine(
     push_line(text, form, "machine", &cells)
 }
 
-// The session of a machine that runs.
+// Returns the number of the running session of the machine `client`.
 fn running_on(sessions: &[StoredSession], client: &[u8]) -> Option<u64>
     ensures { result ≡ option_map (λ (s : SessionValue). s.id)
         (find (is_running_on client.now) sessions.now) }
@@ -173,14 +180,14 @@ fn running_row<'a>(sessions: &'a [StoredSession], client: &[u8]) -> Option<&'a S
         .find(|session| is_running_on(session, client))
 }
 
-// Whether a session is the machine's, and runs.
+// Returns `true` if `session` is running on the machine `client`.
 fn is_running_on(session: &StoredSession, client: &[u8]) -> bool
     ensures { result ≡ is_running_on client.now session.now }
 {
     session.machine.as_slice() == client && matches!(session.state, SessionState::Running)
 }
 
-// How far a client has released its numbers.
+// Returns the release mark of `client`, if it has one.
 fn upto_of(marks: &[StoredMark], client: &[u8]) -> Option<u64>
     ensures { result ≡ option_map (λ (m : Mark). m.upto) (find (has_mark client.now) marks.now) }
 {
@@ -194,14 +201,14 @@ fn mark_for<'a>(marks: &'a [StoredMark], client: &[u8]) -> Option<&'a StoredMark
     marks.iter().find(|mark| has_mark(mark, client))
 }
 
-// Whether a mark is the client's.
+// Returns `true` if `mark` belongs to `client`.
 fn has_mark(mark: &StoredMark, client: &[u8]) -> bool
     ensures { result ≡ has_mark client.now mark.now }
 {
     mark.client.as_slice() == client
 }
 
-// How many replies are kept for a client.
+// Returns the number of replies that are kept for `client`.
 fn kept_for(replies: &[StoredReply], client: &[u8]) -> u64
     ensures { result ≡ length (filter (is_kept_for client.now) replies.now) }
 {
@@ -211,16 +218,17 @@ fn kept_for(replies: &[StoredReply], client: &[u8]) -> u64
         .count() as u64
 }
 
-// Whether a reply is kept for a client.
+// Returns `true` if `reply` is kept for `client`.
 fn is_kept_for(reply: &StoredReply, client: &[u8]) -> bool
     ensures { result ≡ is_kept_for client.now reply.now }
 {
     reply.client.as_slice() == client
 }
 
-// ---- boots
+// ---- boot numbers
 
-// One above the greatest boot that a client's numbers name, if it is a boot.
+// Returns the boot number after the highest one that `client` has used, or `None` if that is the
+// maximum.
 fn next_boot(tables: &Tables, client: &[u8]) -> Option<u64>
     ensures { result ≡ next_boot tables.now client.now }
 {
@@ -232,7 +240,7 @@ fn next_boot(tables: &Tables, client: &[u8]) -> Option<u64>
     }
 }
 
-// The greatest boot that a client's numbers name.
+// Returns the highest boot number in the release mark and the kept replies of `client`.
 fn last_boot(tables: &Tables, client: &[u8]) -> u64
     ensures { result ≡ last_boot tables.now client.now }
 {
@@ -240,7 +248,7 @@ fn last_boot(tables: &Tables, client: &[u8]) -> u64
     greatest(boot_of(released), &tables.replies, client)
 }
 
-// The greatest boot that a client's kept replies name, or this one.
+// Returns the highest boot number in the kept replies of `client`, but at least `boot`.
 fn greatest(boot: u64, replies: &[StoredReply], client: &[u8]) -> u64
     ensures { result
         ≡ fold (λ last (e : Entry). max last (boot_by client.now e)) boot replies.now }
@@ -252,7 +260,7 @@ fn greatest(boot: u64, replies: &[StoredReply], client: &[u8]) -> u64
     last
 }
 
-// The boot that a reply names for a client; 0 where it is another's.
+// Returns the boot number of `reply`, or 0 if the reply belongs to another client.
 fn boot_by(reply: &StoredReply, client: &[u8]) -> u64
     ensures { result ≡ boot_by client.now reply.now }
 {
@@ -263,7 +271,7 @@ fn boot_by(reply: &StoredReply, client: &[u8]) -> u64
     }
 }
 
-// The boot with which a number begins.
+// Returns the boot number of the request number `number`.
 fn boot_of(number: u64) -> u64
     ensures { result ≡ boot_of number }
 {

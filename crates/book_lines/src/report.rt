@@ -1,4 +1,4 @@
-//! The close report of a batch, made of rows.
+//! The report of a batch, made from rows.
 ghost use Rattle.std.specs.Prelude.{◌≡◌, ◌==◌, ℕ, Contains, IfOk, List, Some, filter, find};
 ghost use Rattle.std.specs.Prelude.{option_map};
 ghost use Rattle.std.specs.List.Sorted.{IsNonDecreasingBy};
@@ -26,8 +26,14 @@ use std::alloc::{AllocError, Global};
 use store_data::Name;
 use table_rows::{StoredBatch, StoredRecord, StoredSession, Tables};
 
-/// The close report of a batch of the tables, as it would be written now. A batch that is open has
-/// one too. Time is the number of sessions and of the batch's records, times its logarithm.
+/// Returns the current report of `batch`, which is a batch of `tables`. A batch that is still open
+/// also has a report.
+///
+/// Takes O(n log n) time for n sessions and records of the batch.
+///
+/// # Errors
+///
+/// Returns `AllocError` if an allocation fails.
 #[tactic(auto, unfolding(crate::specs::Report::batch_report))]
 pub fn batch_report(
     alloc: Global,
@@ -46,14 +52,13 @@ pub fn batch_report(
     Ok(text.into_bytes())
 }
 
-/// By the contents that the rows are an image of, the report of a batch is that of its facts: what
-/// `persod report` writes.
+/// Lemma: the report made from rows is the report by the facts of any contents that the rows
+/// represent, which is the output of `persod report`.
 pub fn reports_by_rows()
     ensures { (t : TablesValue) (c : Contents) (name : List ℕ) → IsBook t → AreSound c
         → HaveSameRows t (image c) → report_of t name ≡ report_text c.facts name }
 {}
 
-// The name of these characters.
 fn name_of(text: &[u8]) -> Name
     requires { IsName text.now }
     ensures { result ≡ text.now }
@@ -61,7 +66,7 @@ fn name_of(text: &[u8]) -> Name
     Name::new(text).unwrap()
 }
 
-// A batch's product, and whether it is closed.
+// Returns the product of `batch`, and whether the batch is closed.
 fn row_of(batch: &StoredBatch) -> BatchRow
     requires { IsName batch.now.product }
     ensures { result ≡ batch_of_row batch.now }
@@ -72,7 +77,8 @@ fn row_of(batch: &StoredBatch) -> BatchRow
     }
 }
 
-// How a batch stands. Each of its records is counted once.
+// Returns the counters of `batch`. The number of its records is the sum of the counters of the five
+// states, because each record is in exactly one state.
 fn totals_of(tables: &Tables, batch: &StoredBatch) -> BatchTotals
     requires ready { AreReady tables.now }
     requires audited { IsAuditedBatch tables.now batch.now }
@@ -90,9 +96,9 @@ fn totals_of(tables: &Tables, batch: &StoredBatch) -> BatchTotals
     }
 }
 
-// ---- its records
+// ---- records
 
-// The lines of a batch's records, in file order.
+// Returns the lines of the records of `batch`, in file order.
 fn lines_of(
     alloc: Global,
     tables: &Tables,
@@ -111,7 +117,8 @@ fn lines_of(
     Ok(lines)
 }
 
-// The line of a record, by its batch's sessions under their places.
+// Returns the line of the record `rec`. `by_place` contains the sessions of its batch, keyed by the
+// positions of their records.
 fn line_of(rec: &StoredRecord, by_place: &[Keyed<'_>]) -> RecordLine
     requires name { IsName rec.now.name }
     requires rising { IsNonDecreasingBy (λ (k : ℕ × SessionValue). k.0) by_place.now }
@@ -129,7 +136,7 @@ fn line_of(rec: &StoredRecord, by_place: &[Keyed<'_>]) -> RecordLine
     }
 }
 
-// The serial of the good card among these sessions.
+// Returns the serial of the good card in `sessions`, if there is one.
 fn good_serial(sessions: &[Keyed<'_>]) -> Option<u64>
     ensures { result ≡ option_map (λ (k : ℕ × SessionValue). k.1.serial)
         (find (λ (k : ℕ × SessionValue). is_good k.1.state) sessions.now) }
@@ -138,7 +145,7 @@ fn good_serial(sessions: &[Keyed<'_>]) -> Option<u64>
     Some(session.serial)
 }
 
-// The good one of these sessions.
+// Returns the good session in `sessions`, if there is one.
 fn good_one<'a>(sessions: &[Keyed<'a>]) -> Option<&'a StoredSession>
     ensures { option_map (λ s. s.now) result ≡ option_map (λ (k : ℕ × SessionValue). k.1)
         (find (λ (k : ℕ × SessionValue). is_good k.1.state) sessions.now) }
@@ -149,7 +156,6 @@ fn good_one<'a>(sessions: &[Keyed<'a>]) -> Option<&'a StoredSession>
     }
 }
 
-// Whether a session is good.
 fn is_good(session: &Keyed<'_>) -> bool
     ensures { result ≡ is_good session.now.1.state }
 {

@@ -1,14 +1,14 @@
-//! What a cell shows.
+//! The value of a cell.
 
-/// What a cell shows.
+/// The value of a cell.
 #[derive(Clone, Copy)]
 pub enum Shown<'a> {
-    /// Nothing.
+    /// No value, shown as `-` in columns and as `null` in JSON.
     Nothing,
     /// A number.
     Number(u64),
-    /// Plain characters.
+    /// A word of plain characters.
     Word(&'a [u8]),
-    /// A status word of a card.
+    /// The status word of a card.
     Status(u16),
 }

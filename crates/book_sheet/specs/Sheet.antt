@@ -1,4 +1,5 @@
--- The sheet of a batch: one HTML page for the file of the job, which needs no other file and no script.
+-- The sheet of a batch: one HTML page for the paper records of the job. It needs no other file and
+-- no script.
 use Rattle.std.specs.Prelude.{ℕ, List, ◌++◌, codes, drop, find, flat_map, take, Option, option_map}
 use Rattle.std.specs.Fmt.{decimal}
 use Rattle.hex.specs.Hex.{encode_lower}
@@ -11,13 +12,13 @@ use Rattle.book_lines.specs.Lists.{batch_line, open_or_closed}
 use Rattle.book_lines.specs.Report.{batch_report}
 use Rattle.book_sheet.specs.Html.{between, escaped, row_html}
 
--- ---- the head
+-- ---- head
 
--- up to the title
+-- the start of the page, up to the title
 unfoldable pub start : List ℕ
 start = codes "<!DOCTYPE html>\n<html lang=\"en\">\n<head>\n<meta charset=\"utf-8\">\n<title>Batch "
 
--- behind it
+-- the rest of the head, after the title
 unfoldable pub style : List ℕ
 style =
     codes "</title>\n<style>body{font-family:sans-serif}table{border-collapse:collapse}th,td{border:1px solid;padding:2px 8px;text-align:left}.bar{display:flex;border:1px solid;height:20px;print-color-adjust:exact}.waiting{background:#eee}.running{background:#9cf}.failed,.spoiled{background:#f99;font-weight:bold}.withdrawn{background:#aaa}.good{background:#9d9}</style>\n</head>\n<body>\n"
@@ -25,15 +26,15 @@ style =
 unfoldable pub head_html : List ℕ → List ℕ
 head_html batch = start ++ escaped batch ++ style
 
--- the batch, its product, and whether it is open
+-- the name, the product and the state of the batch
 unfoldable pub title_html : List ℕ → List ℕ → List ℕ → List ℕ
 title_html batch product state =
     between (codes "<h1>Batch ") (escaped batch) (codes "</h1>\n") ++ between (codes "<p>Product ") (escaped product) (codes ", ")
     ++ state ++ codes "</p>\n"
 
--- ---- the records by state
+-- ---- records by state
 
--- a part of the bar: as wide as there are records that stand so
+-- the part of the bar for `n` records in the state `state`; its width is proportional to `n`
 unfoldable pub part_html : List ℕ → ℕ → List ℕ
 part_html state n = between (codes "<div class=\"") state (codes "\" style=\"flex:") ++ decimal n ++ codes " 0 0\"></div>"
 
@@ -58,7 +59,7 @@ unfoldable pub account_heads : List ℕ
 account_heads =
     codes "<table>\n<tr><th>records</th><th class=\"waiting\">waiting</th><th class=\"running\">running</th><th class=\"failed\">failed</th><th class=\"withdrawn\">withdrawn</th><th class=\"good\">good</th><th>sessions</th><th>spoiled</th></tr>\n"
 
--- the account: the cells of the batch's line behind its name, its product and its state
+-- the account: the cells of the batch's line after its name, its product and its state
 abbrev pub counts_html : Tables → StoredBatch → List ℕ
 counts_html t b = row_html (codes "sums") (drop 3 (batch_line t b).cells)
 
@@ -78,16 +79,16 @@ cards_html cards = table_html card_heads (flat_map card_html cards)
 unfoldable pub blank_heads : List ℕ
 blank_heads = codes "<h2>Blanks</h2>\n<table>\n<tr><th>serial</th><th>lot</th><th>state</th><th>record</th></tr>\n"
 
--- all but the batch's name
+-- the row of a charged blank, without the name of the batch
 abbrev pub charge_html : Tables → Charge → List ℕ
 charge_html t c = row_html (state_word (stands_on c.on)) (take 4 (blank_line t c).cells)
 
 abbrev pub blanks_html : Tables → List Charge → List ℕ
 blanks_html t charges = table_html blank_heads (flat_map (charge_html t) charges)
 
--- ---- the file, and the close report
+-- ---- digests of the batch file and the report
 
--- bytes by their SHA-256
+-- the SHA-256 of `bytes`, after the text `before`
 unfoldable pub digest_html : List ℕ → List ℕ → List ℕ
 digest_html before bytes = between before (encode_lower (sha256 bytes)) (codes "</code></p>\n")
 
@@ -96,7 +97,7 @@ digests_html raw report =
     digest_html (codes "<p>SHA-256 of the batch file <code>") raw
     ++ digest_html (codes "<p>SHA-256 of the close report, as it would be written now <code>") report ++ codes "</body>\n</html>\n"
 
--- ---- all of it
+-- ---- complete page
 
 abbrev pub top_html : Tables → StoredBatch → List ℕ
 top_html t b = head_html b.name ++ title_html b.name b.product (open_or_closed b.closed) ++ bar_html b ++ account_html t b
@@ -104,6 +105,6 @@ top_html t b = head_html b.name ++ title_html b.name b.product (open_or_closed b
 abbrev pub sheet_text : Tables → StoredBatch → List ℕ
 sheet_text t b = top_html t b ++ cards_html (batch_cards t b) ++ blanks_html t (batch_charges t b.id) ++ digests_html b.raw (batch_report t b)
 
--- of a batch that is there
+-- the sheet of the batch `name`, or `None` if the batch doesn't exist
 abbrev pub sheet_of : Tables → List ℕ → Option (List ℕ)
 sheet_of t name = option_map (sheet_text t) (find (is_batch_named name) t.batches)

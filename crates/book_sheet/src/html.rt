@@ -1,4 +1,4 @@
-//! Pieces of an HTML page: escaped text, and the cells and rows of a table.
+//! Parts of an HTML page: escaped text, and the cells and rows of a table.
 ghost use Rattle.std.specs.Prelude.{◌≡◌, ◌++◌, OnOk, flat_map};
 ghost use Rattle.book_sheet.specs.Html.{between, cell_html, escaped, escaped_char, row_html};
 ghost use Rattle.book_sheet.specs.Html.{shown_html};
@@ -6,14 +6,22 @@ ghost use Rattle.book_sheet.specs.Html.{shown_html};
 use book_lines::{Cell, Shown, push_number, push_status};
 use std::alloc::AllocError;
 
-/// Adds text as it is: markup, or a word of ours.
+/// Appends `text` without escaping: markup, or a word of this program.
+///
+/// # Errors
+///
+/// Returns `AllocError` if an allocation fails.
 pub(crate) fn push_plain(page: &mut Vec<u8>, text: &str) -> Result<(), AllocError>
     ensures { OnOk result (page.new.items ≡ page.old.items ++ text.now) }
 {
     page.extend_from_slice(text.as_bytes())
 }
 
-/// Adds a text between two others.
+/// Appends `text` between `before` and `after`, without escaping.
+///
+/// # Errors
+///
+/// Returns `AllocError` if an allocation fails. Part of the text may have been appended.
 #[tactic(auto, unfolding(crate::specs::Html::between))]
 pub(crate) fn push_between(
     page: &mut Vec<u8>,
@@ -29,7 +37,11 @@ pub(crate) fn push_between(
     push_plain(page, after)
 }
 
-/// Adds escaped text between two others.
+/// Appends `text` between `before` and `after`, and escapes only `text`.
+///
+/// # Errors
+///
+/// Returns `AllocError` if an allocation fails. Part of the text may have been appended.
 #[tactic(auto, unfolding(crate::specs::Html::between))]
 pub(crate) fn push_named(
     page: &mut Vec<u8>,
@@ -45,7 +57,11 @@ pub(crate) fn push_named(
     push_plain(page, after)
 }
 
-/// Adds text whose characters are no markup.
+/// Appends `text`, and escapes every character that could begin or end markup.
+///
+/// # Errors
+///
+/// Returns `AllocError` if an allocation fails. Part of the text may have been appended.
 #[tactic(auto, unfolding(crate::specs::Html::escaped))]
 pub(crate) fn push_escaped(page: &mut Vec<u8>, text: &[u8]) -> Result<(), AllocError>
     ensures { OnOk result (page.new.items ≡ page.old.items ++ escaped text.now) }
@@ -68,7 +84,11 @@ fn push_char(page: &mut Vec<u8>, c: u8) -> Result<(), AllocError>
     }
 }
 
-/// Adds a row of a table, of a class by which it is coloured.
+/// Appends a table row of the class `class`, which sets its colour.
+///
+/// # Errors
+///
+/// Returns `AllocError` if an allocation fails. Part of the row may have been appended.
 #[tactic(auto, unfolding(crate::specs::Html::row_html))]
 pub(crate) fn push_row(
     page: &mut Vec<u8>,

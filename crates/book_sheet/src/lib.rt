@@ -1,4 +1,4 @@
-//! The sheet of a batch: one HTML page for the job's paper records.
+//! The sheet of a batch: one HTML page for the paper records of the job.
 #![tactic(auto)]
 
 mod html;

@@ -27,11 +27,11 @@ use std::alloc::{AllocError, Global};
 use store_data::Name;
 use table_rows::{StoredBatch, Tables};
 
-/// Its beginning, up to its title.
+/// The start of the page, up to the title.
 const START: &str = "<!DOCTYPE html>\n<html lang=\"en\">\n<head>\n\
 <meta charset=\"utf-8\">\n<title>Batch ";
 
-/// How it looks, on paper too.
+/// The rest of the head, with the style for screen and paper.
 const STYLE: &str = "</title>\n<style>body{font-family:sans-serif}table{border-collapse:collapse}\
 th,td{border:1px solid;padding:2px 8px;text-align:left}\
 .bar{display:flex;border:1px solid;height:20px;print-color-adjust:exact}\
@@ -39,32 +39,39 @@ th,td{border:1px solid;padding:2px 8px;text-align:left}\
 .failed,.spoiled{background:#f99;font-weight:bold}\
 .withdrawn{background:#aaa}.good{background:#9d9}</style>\n</head>\n<body>\n";
 
-/// The heads of the account's columns.
+/// The column headings of the account.
 const ACCOUNT: &str = "<table>\n<tr><th>records</th><th class=\"waiting\">waiting</th>\
 <th class=\"running\">running</th><th class=\"failed\">failed</th>\
 <th class=\"withdrawn\">withdrawn</th><th class=\"good\">good</th>\
 <th>sessions</th><th>spoiled</th></tr>\n";
 
-/// The heads of a card's columns.
+/// The column headings of the cards.
 const CARDS: &str = "<h2>Cards</h2>\n<table>\n<tr><th>record</th><th>session</th>\
 <th>machine</th><th>serial</th><th>state</th><th>words</th><th>last</th></tr>\n";
 
-/// The heads of a blank's columns.
+/// The column headings of the blanks.
 const BLANKS: &str = "<h2>Blanks</h2>\n<table>\n<tr><th>serial</th><th>lot</th>\
 <th>state</th><th>record</th></tr>\n";
 
-/// What stands before the SHA-256 of the batch's file.
+/// The text before the SHA-256 of the batch file.
 const FILE: &str = "<p>SHA-256 of the batch file <code>";
 
-/// What stands before that of its close report.
+/// The text before the SHA-256 of the report.
 const REPORT: &str = "<p>SHA-256 of the close report, as it would be written now <code>";
 
-/// The sheet of a batch: its head, its records by state as a bar and in numbers, its cards, the
-/// blanks charged to it, and the SHA-256 of its file and of its close report, as it would be
-/// written now. None where there is no such batch. Time is the length of its file, and the number
-/// of sessions, blanks, words and the batch's records, times their logarithms. What is put in from
-/// the rows is no markup. By the facts that the rows are an image of, the report is what `persod
-/// report` writes.
+/// Returns the sheet of the batch `batch`, or `None` if the batch doesn't exist. The sheet has the
+/// name, the product and the state of the batch; its records by state, as a bar and in numbers; its
+/// cards; the blanks charged to it; and the SHA-256 of the batch file and of the current report.
+///
+/// Text from the rows is escaped, so it never becomes markup. For any contents that the rows
+/// represent, the report is the output of `persod report`.
+///
+/// Takes O(f + n log n) time for a batch file of f bytes and n sessions, blanks, status words and
+/// records of the batch.
+///
+/// # Errors
+///
+/// Returns `AllocError` if an allocation fails.
 pub fn sheet_of(alloc: Global, tables: &Tables, batch: &Name) -> Result<Option<Vec<u8>>, AllocError>
     requires { IsBook tables.now }
     ensures page { IfOk result (λ found. option_map (λ page. page.items) found
@@ -84,12 +91,11 @@ pub fn sheet_of(alloc: Global, tables: &Tables, batch: &Name) -> Result<Option<V
     }
 }
 
-// No character of escaped text begins or ends markup.
+// Lemma: no character of escaped text begins or ends markup.
 fn escaped_is_text()
     ensures { (text : List ℕ) → IsTrue (is_text (escaped text)) }
 {}
 
-// The sheet of a batch that is there.
 fn sheet_text(alloc: Global, tables: &Tables, batch: &StoredBatch) -> Result<Vec<u8>, AllocError>
     requires book { IsBook tables.now }
     requires there { Contains tables.now.batches batch.now }
@@ -121,7 +127,7 @@ fn push_top(page: &mut Vec<u8>, tables: &Tables, batch: &StoredBatch) -> Result<
     push_account(page, tables, batch)
 }
 
-// ---- the head
+// ---- head
 
 #[tactic(auto, unfolding(crate::specs::Sheet::head_html))]
 fn push_head(page: &mut Vec<u8>, batch: &[u8]) -> Result<(), AllocError>
@@ -146,7 +152,7 @@ fn push_style(page: &mut Vec<u8>) -> Result<(), AllocError>
     push_plain(page, STYLE)
 }
 
-// The batch, its product, and whether it is open.
+// Appends the name, the product and the state of the batch.
 #[tactic(auto, unfolding(crate::specs::Sheet::title_html))]
 fn push_title(
     page: &mut Vec<u8>,
@@ -163,7 +169,7 @@ fn push_title(
     push_plain(page, "</p>\n")
 }
 
-// ---- the records by state
+// ---- records by state
 
 #[tactic(auto, unfolding(crate::specs::Sheet::bar_html))]
 fn push_bar(page: &mut Vec<u8>, batch: &StoredBatch) -> Result<(), AllocError>
@@ -199,7 +205,8 @@ fn push_ended(page: &mut Vec<u8>, batch: &StoredBatch) -> Result<(), AllocError>
     push_part(page, "good", batch.good)
 }
 
-// A part of the bar, as wide as this number says beside those of the others.
+// Appends the part of the bar for `count` records in the state `state`. The width of a part is
+// proportional to its number of records.
 #[tactic(auto, unfolding(crate::specs::Sheet::part_html))]
 fn push_part(page: &mut Vec<u8>, state: &str, count: u64) -> Result<(), AllocError>
     ensures { OnOk result (page.new.items ≡ page.old.items ++ part_html state.now count) }
@@ -221,7 +228,7 @@ fn push_account(page: &mut Vec<u8>, tables: &Tables, batch: &StoredBatch) -> Res
     push_plain(page, "</table>\n")
 }
 
-// The cells of the batch's line behind its name, its product and its state.
+// Appends the account: the cells of the batch's line after its name, its product and its state.
 fn push_counts(page: &mut Vec<u8>, tables: &Tables, batch: &StoredBatch) -> Result<(), AllocError>
     requires { AreReady tables.now }
     ensures { OnOk result (page.new.items ≡ page.old.items ++ counts_html tables.now batch.now) }
@@ -307,7 +314,8 @@ fn push_blank_rows<'a>(
     Ok(())
 }
 
-// The row of a blank, with all but the batch's name.
+// Appends the row of a charged blank, without the name of the batch, which is the same in every
+// row.
 fn push_blank<'a>(
     page: &mut Vec<u8>,
     tables: &'a Tables,
@@ -321,7 +329,7 @@ fn push_blank<'a>(
     push_row(page, charge.stands().word(), &cells[..4])
 }
 
-// ---- the file, and the close report
+// ---- digests of the batch file and the report
 
 #[tactic(auto, unfolding(crate::specs::Sheet::digests_html))]
 fn push_digests(page: &mut Vec<u8>, raw: &[u8], report: &[u8]) -> Result<(), AllocError>

@@ -1,4 +1,4 @@
--- The rows of a batch file that are put in, some after the others.
+-- The rows of a batch file that are inserted one group after the other.
 use Rattle.std.proofs.Common.{◌≡◌, ℕ, ◌+◌, ◌<◌, ◌≤◌, Bool, true, false, List, [], ◌∷◌, ◌++◌, if◌then◌else◌, length, map, Some, Ok, inl, inr, refl, sym, ap, subst, ◌∙◌, arith}
 use Rattle.std.specs.Prelude.{bytes_eq}
 use Rattle.std.specs.List.{enumerate_from, list_any, position_or_len}
@@ -33,10 +33,10 @@ use Rattle.change_writes.specs.Imports.{AreOfFile, IsImported, IsTaken, TakesRow
 abbrev rec_of : Row → List ℕ
 rec_of row = row.rec
 
--- ---- places of names
+-- ---- positions of names
 
 module _ {X : Type 0} (p : X → Bool) where
-  -- what is not found would stand behind the last
+  -- The position of an element that isn't found is the length of the list.
   past : (xs : List X) → list_any p xs ≡ false → position_or_len p xs ≡ length xs
   past [] none = refl
   past (x ∷ xs) none = elim (cases_Bool (p x)) [
@@ -44,7 +44,7 @@ module _ {X : Type 0} (p : X → Bool) where
     | inr miss ↦ rw miss (omega (arith, past xs (rw miss at none)))
   ]
 
-  -- what is found stays where it is, with others behind
+  -- The position of an element that is found doesn't change if others are appended.
   stays : (xs ys : List X) → list_any p xs ≡ true → position_or_len p (xs ++ ys) ≡ position_or_len p xs
   stays [] ys there = absurd (cc)
   stays (x ∷ xs) ys there = elim (cases_Bool (p x)) [
@@ -52,7 +52,7 @@ module _ {X : Type 0} (p : X → Bool) where
     | inr miss ↦ rw miss (ap (λ n. 1 + n) (stays xs ys (rw miss at there)))
   ]
 
-  -- what is found behind the others was behind them
+  -- The position of the first match doesn't change if another match is appended.
   found_behind : (xs : List X) (y : X) → p y ≡ true → position_or_len p (xs ++ y ∷ []) ≡ position_or_len p xs
   found_behind [] y hit = rw hit refl
   found_behind (x ∷ xs) y hit = elim (cases_Bool (p x)) [
@@ -60,7 +60,7 @@ module _ {X : Type 0} (p : X → Bool) where
     | inr miss ↦ rw miss (ap (λ n. 1 + n) (found_behind xs y hit))
   ]
 
--- the name that a row brings, where it is new
+-- the name that a row adds, if it is new
 abbrev new_name : List (List ℕ) → List ℕ → List (List ℕ)
 new_name names k = if list_any (bytes_eq k) names then [] else k ∷ []
 
@@ -76,7 +76,7 @@ record_more batch names k = elim (cases_Bool (list_any (bytes_eq k) names)) [
   | inr miss ↦ rw (miss, past (bytes_eq k) names miss) refl
 ]
 
--- a name has its place with others, or behind them
+-- The position of a name is the same before and after the name is added.
 own_place : (names : List (List ℕ)) (k : List ℕ) → position_or_len (bytes_eq k) (with_key names k) ≡ position_or_len (bytes_eq k) names
 own_place names k = elim (cases_Bool (list_any (bytes_eq k) names)) [
   | inl hit ↦ rw hit refl
@@ -88,12 +88,12 @@ own_place names k = elim (cases_Bool (list_any (bytes_eq k) names)) [
 names_more : (taken : List Row) (row : Row) → names_of (taken ++ row ∷ []) ≡ with_key (names_of taken) row.rec
 names_more taken row = sym (keys_more rec_of taken (names_of taken) [] row row.rec (with_key (names_of taken) row.rec) refl refl refl)
 
--- a name of a row is among them
+-- The name in a row is one of the names of the rows.
 named : (rows : List Row) (j : List ℕ) → list_any (bytes_eq j) (map rec_of rows) ≡ true → list_any (bytes_eq j) (names_of rows) ≡ true
 named rows j there = list_any-first_appearances j [] (map rec_of rows) ∙ there
 
 module _ (batch : ℕ) where
-  -- rows whose records have the same places
+  -- rows whose records have the same positions
   alike : (old new : List (List ℕ)) (n : ℕ) (rows : List Row)
       → ((j : List ℕ) → list_any (bytes_eq j) (map rec_of rows) ≡ true → position_or_len (bytes_eq j) new ≡ position_or_len (bytes_eq j) old)
       → map (new_grouping batch new) (enumerate_from n rows) ≡ map (new_grouping batch old) (enumerate_from n rows)
@@ -103,14 +103,14 @@ module _ (batch : ℕ) where
       let here = same row.rec (or_left (bytes_eq row.rec row.rec) (list_any (bytes_eq row.rec) (map rec_of rows)) (bytes_eq-same row.rec)) in
       rw (here, more) refl
 
-  -- the same with more names behind
+  -- the same rows, with more names appended
   alike_more : (names new : List (List ℕ)) (n : ℕ) (rows : List Row) → ((j : List ℕ) → list_any (bytes_eq j) (map rec_of rows) ≡ true → list_any (bytes_eq j) names ≡ true)
       → map (new_grouping batch (names ++ new)) (enumerate_from n rows) ≡ map (new_grouping batch names) (enumerate_from n rows)
   alike_more names new n rows among = alike names (names ++ new) n rows (λ j there. stays (bytes_eq j) names new (among j there))
 
--- ---- rows that are put in behind others
+-- ---- rows that are inserted after others
 
--- what was put in last stands first, or where it was
+-- The rows that were inserted last can be moved to the front.
 last_first : {X : Type 0} (xs new ys : List X) → IsPermutation ((xs ++ new) ++ ys) (new ++ (xs ++ ys))
 last_first xs new ys =
     subst (IsPermutation ((xs ++ new) ++ ys)) (append_assoc new xs ys) (IsPermutation-append_left ys (xs ++ new) (new ++ xs) (IsPermutation-append_comm xs new))
@@ -162,7 +162,7 @@ module _ (batch : ℕ) (taken next : List Row) (new : List (List ℕ)) (named_to
           marks = IsPermutation-refl _;
         }
 
--- rows that are put in one by one are put in
+-- Inserting rows one by one has the same effect as inserting them together.
 module _ (t : Tables) where
   records_swapped : (records more : List StoredRecord) → IsPermutation records more → HaveSameRows (record t { records = records }) (record t { records = more })
   records_swapped records more same = record {
@@ -209,7 +209,7 @@ each_row (x ∷ xs) a b made = λ t image.
     same_rows (with_groupings (map grouping_of (x ∷ xs)) t) (with_groupings (map grouping_of xs) (with_grouping (grouping_of x) t)) b
     (groupings_swapped t _ _ (first_behind (grouping_of x) (map grouping_of xs) t.groupings)) (each_row xs made.0 b made.2 (with_grouping (grouping_of x) t) (made.1 t image))
 
--- ---- a walk over a file
+-- ---- reading a file
 
 names_few : (rows : List Row) → length (names_of rows) ≤ length rows
 unfolding grouped
@@ -222,7 +222,7 @@ module _ (check : Bool) (raw : List ℕ) where
   pub taken_few : (taken : List Row) (names : List (List ℕ)) (line : ℕ) (left : Left) → IsTaken check raw taken names line left → line ≤ 4098
   taken_few taken names line left is = omega (arith, is.numbered, coming_of-few check raw, ap (λ c. length c.rows) is.all, length-append taken is.more.rows)
 
-  -- one row more
+  -- one more row
   module _ (taken : List Row) (names : List (List ℕ)) (line : ℕ) (left : Left) (is : IsTaken check raw taken names line left) (row : Row) (after : Left) (takes : TakesRow left (Ok (Some row)) after) where
     all_is : coming_of check raw ≡ rows_then taken (row_then row takes.0)
     all_is =
@@ -245,7 +245,7 @@ module _ (check : Bool) (raw : List ℕ) where
       numbered = omega (arith, is.numbered, length-append taken (row ∷ []));
     }
 
--- the row of a batch file with this number, for the record at a place
+-- row `line` of a batch file, for the record at position `place`
 abbrev pub grouping_at : ℕ → ℕ → ℕ → Row → StoredGrouping
 grouping_at batch line place row =
     record { batch = batch; line = line; place = place; aid = row.aid; rank = row.rank; enc = row.enc; tol = row.tol; coded = row.coded }
@@ -253,7 +253,7 @@ grouping_at batch line place row =
 -- ---- more rows
 
 module _ (check : Bool) (raw : List ℕ) (taken : List Row) (batch : ℕ) (names : List (List ℕ)) (line : ℕ) where
-  -- none yet
+  -- no rows so far
   pub none_more : (left : Left) → IsTaken check raw taken names line left → TakesRows check raw taken batch names line [] [] names left
   none_more left is = record {
     next = [];
@@ -282,7 +282,7 @@ module _ (check : Bool) (raw : List ℕ) (taken : List Row) (batch : ℕ) (names
       pub names_are_few : length more_names < 4096
       names_are_few = few_named check raw (taken ++ next) more_names (line + length next) left takes_rows.taken_too row after takes
 
-      -- and one
+      -- one more row
       module _ (x : FileRow) (at place : ℕ) (x_is : grouping_of x ≡ grouping_at batch at place row) (at_is : at ≡ line + length rows) (place_is : place ≡ position_or_len (bytes_eq row.rec) more_names)
           (with_new : List NewRecord) (new_is : map record_of with_new ≡ map record_of records ++ record_if_new batch more_names row.rec) where
         abbrev all_names : List (List ℕ)
@@ -379,7 +379,7 @@ module _ (check : Bool) (raw : List ℕ) (batch : ℕ) where
             };
       }
 
-      -- where none came, all were taken
+      -- If no row was left, all rows were read.
       pub all_imported : length rows ≡ 0 → (length rows < 16 → after ≡ Ok no_more) → HasCleanDisk b → GoesOn (Moves (with_file_rows batch (coming_of check raw).rows)) a b
       all_imported none last clean =
           let is = takes.taken_too in

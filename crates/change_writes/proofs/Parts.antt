@@ -11,7 +11,7 @@ use Rattle.sql_tables.specs.Each.{Each, WroteEach}
 use Rattle.table_rows.specs.Tables.{Tables}
 use Rattle.sql_rows.specs.Many.{GoesOn, WroteMany}
 
--- what went well inside a transaction goes on in it
+-- After a successful part inside a transaction, the transaction is still open.
 pub wrote_many : {X : Type 0} (R : Database → Database → Type 0) (a b : State) (r : Result X Error) → Inside R a b → KeepsCommit a b → WroteMany R a b r
 wrote_many R a b (Ok x) well kept = record { well = record { made = well.made; committed = well.committed; inside = λ _. well.inside }; kept = kept }
 wrote_many R a b (Err e) well kept = record { well = tt; kept = kept }
@@ -20,19 +20,19 @@ pub many : {X : Type 0} (R : Database → Database → Type 0) (a b : State) (r 
 many R a b (Ok x) it = record { well = record { made = it.well.made; committed = it.well.committed; inside = λ _. it.well.inside }; kept = it.kept }
 many R a b (Err e) it = record { well = tt; kept = it.kept }
 
--- an error on the way
+-- an error in one of the parts
 pub failed_many : {X : Type 0} (R : Database → Database → Type 0) (a b : State) (r : Result X Error) → IsErr r → KeepsCommit a b → WroteMany R a b r
 failed_many R a b (Ok x) is kept = absurd (cc)
 failed_many R a b (Err e) is kept = record { well = tt; kept = kept }
 
--- one row after a part that went on
+-- a single row after another part
 pub wrote_after : {X : Type 0} (P Q R : Database → Database → Type 0) (a b c : State) (r : Result X Error) → (P a.now b.now → Q b.now c.now → R a.now c.now) → GoesOn P a b → KeepsCommit a b → Inside Q b c
     → KeepsCommit b c → WroteMany R a c r
 wrote_after P Q R a b c (Ok x) both one kept two kept_too =
     record { well = record { made = both one.made two.made; committed = two.committed ∙ one.committed; inside = λ _. two.inside }; kept = keeps_then a b c kept kept_too }
 wrote_after P Q R a b c (Err e) both one kept two kept_too = record { well = tt; kept = keeps_then a b c kept kept_too }
 
--- many rows after many
+-- many rows after many rows
 pub many_after : {X : Type 0} (P Q R : Database → Database → Type 0) (a b c : State) (r : Result X Error) → (P a.now b.now → Q b.now c.now → R a.now c.now) → GoesOn P a b → KeepsCommit a b → WroteMany Q b c r → WroteMany R a c r
 many_after P Q R a b c (Ok x) both one kept two = record {
   well = record { made = both one.made two.well.made; committed = two.well.committed ∙ one.committed; inside = λ inside. two.well.inside (one.inside inside) };
@@ -40,7 +40,7 @@ many_after P Q R a b c (Ok x) both one kept two = record {
 }
 many_after P Q R a b c (Err e) both one kept two = record { well = tt; kept = keeps_then a b c kept two.kept }
 
--- many rows after a part that went well
+-- many rows after a part that succeeded inside a transaction
 inside_on : (P Q R : Database → Database → Type 0) (a b c : State) → (P a.now b.now → Q b.now c.now → R a.now c.now) → Inside P a b → GoesOn Q b c → Inside R a c
 inside_on P Q R a b c both one two = record { made = both one.made two.made; committed = two.committed ∙ one.committed; inside = two.inside one.inside; was_open = one.was_open }
 
@@ -49,7 +49,7 @@ pub wrote_on : {X : Type 0} (P Q R : Database → Database → Type 0) (a b c : 
 wrote_on P Q R a b c (Ok x) both one kept two = record { well = inside_on P Q R a b c both one two.well; kept = keeps_then a b c kept two.kept }
 wrote_on P Q R a b c (Err e) both one kept two = record { well = tt; kept = keeps_then a b c kept two.kept }
 
--- one row after many
+-- a single row after many rows
 pub many_then : {X : Type 0} (P Q R : Database → Database → Type 0) (a b c : State) (r : Result X Error) → (P a.now b.now → Q b.now c.now → R a.now c.now) → GoesOn P a b → KeepsCommit a b → Wrote Q b c r
     → Wrote R a c r
 many_then P Q R a b c (Ok x) both one kept two = record {
@@ -63,7 +63,7 @@ pub ran_each : {X Y : Type 0} (R : X → Database → Database → Type 0) (Q : 
 ran_each R Q xs a b (Ok y) all it = record { well = record { made = all it.well.made; committed = it.well.committed; inside = it.well.goes_on }; kept = it.kept }
 ran_each R Q xs a b (Err e) all it = record { well = tt; kept = it.kept }
 
--- rows that move, and move on
+-- two changes of the rows, one after the other
 module _ (f g : Tables → Tables) (a b c : Database) where
   pub moved_on : Moves f a b → Moves g b c → Moves (λ t. g (f t)) a c
   moved_on first more t image = more (f t) (first t image)

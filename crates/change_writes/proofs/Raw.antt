@@ -1,4 +1,4 @@
--- A batch that was put in without its bytes, and has them in the end.
+-- A batch that is inserted without its bytes, which are set at the end.
 use Rattle.std.proofs.Common.{◌≡◌, ◌==◌, ℕ, false, List, [], ◌∷◌, map, refl, subst}
 use Rattle.std.specs.List.{AllByRecursion}
 use Rattle.sqlite.specs.Effect.{Database}
@@ -15,7 +15,8 @@ module _ (id count : ℕ) (name code raw : List ℕ) (rows : List Row) where
       → map (raw_set id raw) (new_batch id name code [] count ∷ bs) ≡ new_batch id name code raw count ∷ bs
   set_last bs differ = rw (itself id, stay id raw bs differ) refl
 
-  -- its bytes were set, and no other batch has its id: so it is as if it had been put in with them
+  -- The bytes of the batch were set, and no other batch has its id. The rows are therefore the same
+  -- as if the batch had been inserted with its bytes.
   pub bytes_last : (a b c : Database) → Moves (batch_rows_after id name code [] count rows) a b → Moves (with_raw_set id raw) b c → Moves (batch_rows_after id name code raw count rows) a c
   bytes_last a b c first then t image =
       let bare = first t image in

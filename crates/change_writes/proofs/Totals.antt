@@ -1,4 +1,4 @@
--- The counters that a batch has in the rows behind what is written.
+-- The counters of a batch in the rows after a write.
 use Rattle.std.proofs.Common.{◌≡◌, ◌==◌, ℕ, refl, sym, subst, inl, inr, arith}
 use Rattle.std.proofs.lemmas.Bool.{cases_Bool}
 use Rattle.std.proofs.lemmas.Bool.Decides.{nat_tests}
@@ -20,11 +20,11 @@ module _ (id : ℕ) (totals : BatchTotals) where
     | inr miss ↦ rw miss (λ same. absurd (grind (arith, nat_tests, miss, same)))
   ]
 
--- the counters that its record's state, and its counts, are written with
+-- the counters that are written with the state and the counts of a record
 pub after_has : (p : RecordPlace) (state : RecordState) (spoiled remakes : ℕ) (totals : BatchTotals) (t : Tables) → HasTotals p.batch (summed totals) (record_after p state spoiled remakes totals t)
 after_has p state spoiled remakes totals t = All-map (HasThese p.batch totals) (totals_set p.batch totals) t.batches (λ k d low. set_has p.batch totals _)
 
--- the same where they are given
+-- the same counters, given by another term
 pub given_has : (p : RecordPlace) (state : RecordState) (spoiled remakes : ℕ) (totals given : BatchTotals) → given ≡ totals → (t : Tables)
     → HasTotals p.batch (summed given) (record_after p state spoiled remakes totals t)
 given_has p state spoiled remakes totals given same t = subst (λ n. HasTotals p.batch (summed n) (record_after p state spoiled remakes totals t)) (sym same) (after_has p state spoiled remakes totals t)

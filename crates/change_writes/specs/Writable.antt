@@ -1,11 +1,11 @@
--- What can be written: all that its statements put in are numbers of SQL's, which end below 2^63.
+-- The writes whose numbers are all integers of SQL, which are less than 2^63.
 use Rattle.std.specs.Prelude.{ℕ, ◌+◌, ◌-◌, ◌<◌, ◌^◌, ⊤}
 use Rattle.job_facts.specs.declared.rows.BatchTotals.{BatchTotals}
 use Rattle.table_rows.specs.declared.writing.RecordPlace.{RecordPlace}
 use Rattle.table_rows.specs.declared.writing.Writing.{Writing}
 use Rattle.table_rows.specs.declared.writing.Writing.TheVariants as writing
 
--- each of a batch's counters is below this
+-- Every counter is less than `end`.
 pub record AreBelow (end : ℕ) (n : BatchTotals) : Type 0 where
   pub waiting : n.waiting < end
   pub running : n.running < end
@@ -15,8 +15,8 @@ pub record AreBelow (end : ℕ) (n : BatchTotals) : Type 0 where
   pub sessions : n.sessions < end
   pub spoiled : n.spoiled < end
 
--- a record has a place that SQL has a number for, and its counts and those of its batch are below
--- this
+-- The batch id and the position of the record are integers of SQL, and its counts and the counters
+-- of its batch are less than `end`.
 pub record IsPlacedBelow (end : ℕ) (p : RecordPlace) : Type 0 where
   pub batch : p.batch < 2 ^ 63
   pub place : p.place < 2 ^ 63
@@ -24,7 +24,7 @@ pub record IsPlacedBelow (end : ℕ) (p : RecordPlace) : Type 0 where
   pub remakes : p.remakes < end
   pub totals : AreBelow end p.totals
 
--- and each of these counts can be one more
+-- The record is as above, and each of its counts and counters can be increased by one.
 abbrev pub HasRoom : RecordPlace → Type 0
 HasRoom = IsPlacedBelow (2 ^ 63 - 1)
 

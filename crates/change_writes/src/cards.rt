@@ -1,5 +1,5 @@
-//! Sessions, their words, and blanks, in an open transaction. A crash before its end leaves
-//! nothing of it.
+//! Writes sessions, their status words and blanks, in an open transaction. A crash before its
+//! commit leaves no trace of them.
 ghost use Rattle.std.specs.Prelude.{◌≡◌, ◌+◌, ◌<◌, ◌^◌};
 ghost use Rattle.sqlite.specs.Held.{state};
 ghost use Rattle.sqlite.specs.State.{Survives};
@@ -16,7 +16,7 @@ use sqlite::{Alter, Error, Transaction};
 use store_data::Name;
 use table_rows::RecordPlace;
 
-/// A session is opened on a blank of a lot, and its record runs.
+/// Adds a session with its blank, and sets the record to running.
 pub(crate) fn write_opened<S: Alter>(
     tx: &mut Transaction<'_, S>,
     session: &NewSession,
@@ -37,7 +37,7 @@ pub(crate) fn write_opened<S: Alter>(
     write_record(tx, &RecordPlace { totals, ..*place }, RecordState::Running)
 }
 
-/// A session has one more word, and stands so with it.
+/// Adds a status word, and sets its session to `stands`.
 pub(crate) fn write_word<S: Alter>(
     tx: &mut Transaction<'_, S>,
     word: &NewWord,
@@ -55,7 +55,7 @@ pub(crate) fn write_word<S: Alter>(
     set_session(tx, word.session, stands, words, &word.cursor)
 }
 
-/// A session has its last word, and its record stands as the word leaves it.
+/// Adds the last status word of a session, sets the session to `stands`, and updates its record.
 pub(crate) fn write_last_word<S: Alter>(
     tx: &mut Transaction<'_, S>,
     word: &NewWord,
@@ -75,7 +75,7 @@ pub(crate) fn write_last_word<S: Alter>(
     write_stop(tx, place, stands)
 }
 
-/// A session is ended by a reset, and its record fails.
+/// Ends a session that was aborted or reset, and sets its record to failed.
 pub(crate) fn write_end<S: Alter>(
     tx: &mut Transaction<'_, S>,
     session: u64,
@@ -93,7 +93,7 @@ pub(crate) fn write_end<S: Alter>(
     write_spoiled(tx, place)
 }
 
-/// A blank of a lot is discarded.
+/// Adds a discarded blank of a lot.
 pub(crate) fn write_discard<S: Alter>(
     tx: &mut Transaction<'_, S>,
     blank: u64,

@@ -1,5 +1,5 @@
-//! The statements of whatever is written with a reply, in an open transaction. A crash before its
-//! end leaves nothing of it.
+//! Executes the statements of a write, in an open transaction. A crash before its commit leaves no
+//! trace of them.
 ghost use Rattle.std.specs.Prelude.{◌≡◌};
 ghost use Rattle.sqlite.specs.Held.{state};
 ghost use Rattle.sqlite.specs.State.{Survives};
@@ -17,8 +17,8 @@ use sqlite::{Alter, Error, Transaction};
 use std::alloc::Global;
 use table_rows::Writing;
 
-/// Writes all but the reply, and returns how many rows its last statement touched. After an error
-/// the caller drops the transaction.
+/// Writes everything except the reply, and returns the number of rows that the last statement
+/// changed. After an error the caller must drop the transaction.
 pub(crate) fn write_change<S: Alter>(
     tx: &mut Transaction<'_, S>,
     alloc: Global,

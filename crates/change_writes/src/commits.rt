@@ -1,4 +1,4 @@
-//! What is written with a reply, and the one transaction that it is written in.
+//! Writes a change or a release and its reply, in one transaction.
 ghost use Rattle.std.specs.Prelude.{◌≡◌, ◌<◌, ◌^◌, false, OnErr, OnOk};
 ghost use Rattle.sqlite.specs.Held.{state};
 ghost use Rattle.sqlite.specs.State.{HasCleanDisk, Survives};
@@ -17,7 +17,7 @@ use sqlite::{Alter, Connection, Error, Transaction};
 use std::alloc::Global;
 use table_rows::{Entry, Writing};
 
-// All that is written, in an open transaction.
+// Writes the change or release and its reply, in an open transaction.
 fn write_all<S: Alter>(
     tx: &mut Transaction<'_, S>,
     alloc: Global,
@@ -36,8 +36,14 @@ fn write_all<S: Alter>(
     add_reply(tx, entry)
 }
 
-/// Writes a change or a release, and keeps its reply, or does neither: nothing is written where a
-/// number of the change is beyond SQL's. A crash leaves what it could leave before, or all of it.
+/// Writes a change or a release and its reply, or neither. After a crash the database is as it
+/// could be before the call, or has both.
+///
+/// # Errors
+///
+/// - `InvalidQuery` if a number of `writing` is 2^63 or higher, or the batch file of an import has
+///   a fault
+/// - any error of the database, including out of memory
 pub fn commit<S: Alter>(
     conn: &mut Connection<S>,
     alloc: Global,

@@ -1,4 +1,4 @@
-//! The counters that a change makes.
+//! Computes the counters of a batch after a change.
 ghost use Rattle.std.specs.Prelude.{◌≡◌, ◌-◌, ◌<◌, ◌^◌, IfSome, Some};
 ghost use Rattle.job_facts.specs.Contents.{Entry as EntryValue};
 ghost use Rattle.job_facts.specs.declared.facts.RecordState.TheVariants as rec;
@@ -11,7 +11,7 @@ ghost use Rattle.change_writes.specs.Writable.{AreBelow, HasRoom, IsWritable};
 use job_facts::{BatchTotals, RecordState, SessionState};
 use table_rows::{RecordPlace, Writing};
 
-// One record of a batch less stands so.
+// Returns the counters with one record fewer in the state `stands`.
 fn less(stands: RecordState, totals: &BatchTotals) -> BatchTotals
     requires { AreBelow (2 ^ 63 - 1) totals.now }
     ensures value { result ≡ less stands totals.now }
@@ -41,7 +41,7 @@ fn less(stands: RecordState, totals: &BatchTotals) -> BatchTotals
     }
 }
 
-// One record of a batch more stands so.
+// Returns the counters with an additional record in the state `stands`.
 fn more(stands: RecordState, totals: &BatchTotals) -> BatchTotals
     requires { AreBelow (2 ^ 63 - 1) totals.now }
     ensures value { result ≡ more stands totals.now }
@@ -58,7 +58,7 @@ fn more(stands: RecordState, totals: &BatchTotals) -> BatchTotals
     counters
 }
 
-/// A record of a batch passes from one state to another.
+/// Returns the counters after a record changes from `was` to `stands`.
 pub(crate) fn passed(was: RecordState, stands: RecordState, totals: &BatchTotals) -> BatchTotals
     requires { AreBelow (2 ^ 63 - 1) totals.now }
     ensures value { result ≡ more stands (less was totals.now) }
@@ -67,7 +67,7 @@ pub(crate) fn passed(was: RecordState, stands: RecordState, totals: &BatchTotals
     more(stands, &less(was, totals))
 }
 
-/// A session of a waiting record is opened.
+/// Returns the counters after a session is opened for a waiting record.
 pub(crate) fn opened(totals: &BatchTotals) -> BatchTotals
     requires { AreBelow (2 ^ 63 - 1) totals.now }
     ensures value { result ≡ one_opened (more rec.Running (less rec.Waiting totals.now)) }
@@ -79,7 +79,7 @@ pub(crate) fn opened(totals: &BatchTotals) -> BatchTotals
     }
 }
 
-/// The running session of a record is spoiled.
+/// Returns the counters after the running session of a record is spoiled.
 pub(crate) fn spoiled(totals: &BatchTotals) -> BatchTotals
     requires { AreBelow (2 ^ 63 - 1) totals.now }
     ensures value { result ≡ one_spoiled (more rec.Failed (less rec.Running totals.now)) }
@@ -91,7 +91,8 @@ pub(crate) fn spoiled(totals: &BatchTotals) -> BatchTotals
     }
 }
 
-// The counters, with how many records they sum up to, if that is a number.
+// Returns the counters with the sum of the five states as the number of records, or `None` if the
+// sum overflows.
 fn summed(totals: &BatchTotals) -> Option<BatchTotals>
     ensures { IfSome result (λ all. all ≡ summed totals.now) }
 {
@@ -104,7 +105,8 @@ fn summed(totals: &BatchTotals) -> Option<BatchTotals>
     Some(BatchTotals { records, ..*totals })
 }
 
-// The counters behind a word that leaves the session of this record so.
+// Returns the counters after a status word leaves the session of the record in the state `stands`,
+// or `None` if the session is still running.
 fn stopped(place: &RecordPlace, stands: SessionState) -> Option<BatchTotals>
     requires { HasRoom place.now }
     ensures { IfSome result (λ totals. (t : Tables)
@@ -117,7 +119,8 @@ fn stopped(place: &RecordPlace, stands: SessionState) -> Option<BatchTotals>
     }
 }
 
-// The id of the batch whose counters what is written sets, and these counters without their sum.
+// Returns the id of the batch whose counters the write sets, and the new counters, in which the
+// number of records isn't updated.
 fn moved(writing: &Writing<'_>) -> Option<(u64, BatchTotals)>
     requires { IsWritable writing.now }
     ensures totals { IfSome result (λ it. (t : Tables) (entry : EntryValue)
@@ -142,7 +145,8 @@ fn moved(writing: &Writing<'_>) -> Option<(u64, BatchTotals)>
     }
 }
 
-/// The id of the batch whose counters what is written sets, and these counters.
+/// Returns the id of the batch whose counters the write sets, and the new counters. Returns `None`
+/// if the write sets no counters of an existing batch.
 pub fn counters_after(writing: &Writing<'_>) -> Option<(u64, BatchTotals)>
     requires { IsWritable writing.now }
     ensures totals { IfSome result (λ it. (t : Tables) (entry : EntryValue)

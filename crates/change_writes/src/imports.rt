@@ -1,4 +1,4 @@
-//! A batch is imported, in an open transaction. A crash before its end leaves nothing of it.
+//! Imports a batch, in an open transaction. A crash before its commit leaves no trace of it.
 ghost use Rattle.std.specs.Prelude.{◌≡◌, ◌<◌, ◌^◌, ◌++◌, ℕ, Bool, List, []};
 ghost use Rattle.std.specs.Prelude.{IfOk, Ok, OnOk, bytes_eq, length, map};
 ghost use Rattle.std.specs.List.{position_or_len};
@@ -31,12 +31,18 @@ use sqlite::{Alter, Error, ErrorCode, Transaction};
 use std::alloc::Global;
 use store_data::{Name, Product, Row};
 
-/// The number of the first data row: row 1 is the header.
+/// The row number of the first data row. Row 1 is the header.
 const FIRST_DATA_ROW: u32 = 2;
 
-/// Writes the batch of a file: its row, its records and its groupings. A file with a fault is an
-/// error, and so is refused memory. After an error the caller drops the transaction. The bytes are
-/// set last: each row that refers to the batch has its row read whole.
+/// Writes a batch: its row, its records and its groupings.
+///
+/// The bytes of the file are set last, because SQLite reads the whole row of the batch for every
+/// row that refers to it. After an error the caller must drop the transaction.
+///
+/// # Errors
+///
+/// - `InvalidQuery` if the file has a fault
+/// - any error of the database, including out of memory
 pub(crate) fn write_batch<S: Alter>(
     tx: &mut Transaction<'_, S>,
     alloc: Global,
@@ -53,7 +59,7 @@ pub(crate) fn write_batch<S: Alter>(
     set_raw(tx, batch.number, batch.raw)
 }
 
-// Writes the batch of a file, but for the bytes in its row.
+// Writes a batch without the bytes of its file.
 fn write_bare<S: Alter>(
     tx: &mut Transaction<'_, S>,
     alloc: Global,
@@ -74,7 +80,7 @@ fn write_bare<S: Alter>(
     add_rows(tx, alloc, number, product, batch.raw)
 }
 
-// What is reported of a file that is not taken.
+// Returns the error for a file that can't be imported.
 fn refused(fault: ImportFault) -> Error
     ensures { result ≡ refused fault }
 {
@@ -84,7 +90,7 @@ fn refused(fault: ImportFault) -> Error
     }
 }
 
-// Adds the rows of a batch file, of which sixteen at a time are held.
+// Adds the rows of a batch file. At most sixteen rows at a time are in memory.
 fn add_rows<S: Alter>(
     tx: &mut Transaction<'_, S>,
     alloc: Global,
@@ -113,16 +119,16 @@ fn add_rows<S: Alter>(
     }
 }
 
-// What comes next of a file.
+// The next rows of a batch file.
 #[derive(Drop)]
 struct Next {
     rows: Vec<FileRow>,
-    /// The records of the names that are new among these rows.
+    /// The records for the names that are new in these rows.
     records: Vec<NewRecord>,
 }
 
-// The next rows of a file, at most sixteen, and fewer behind the last alone. The names are those
-// of the records so far.
+// Returns the next rows of the file: sixteen, or fewer at the end of the file. `names` are the
+// names of the records so far.
 fn next_rows(
     stream: &mut BatchRows<'_>,
     alloc: Global,
@@ -158,15 +164,15 @@ fn next_rows(
     Ok(next)
 }
 
-// The next row of a file, or none behind the last.
+// Returns the next row of the file, or `None` after the last one.
 fn next_row(stream: &mut BatchRows<'_>) -> Result<Option<Row>, Error>
     ensures { IfOk result (λ row. TakesRow stream.old (Ok row) stream.new) }
 {
     stream.next().map_err(refused)
 }
 
-// The place of the record of a name. A name that is new is put behind the others, and its record
-// behind these.
+// Returns the position of the record with this name. A new name is appended to `names`, and its
+// record to `records`.
 fn place_of(
     names: &mut IndexSet<Name>,
     records: &mut Vec<NewRecord>,
@@ -190,7 +196,7 @@ fn place_of(
     Ok(place)
 }
 
-// Adds rows of a file, behind the records of their new names.
+// Adds the records for new names, and then the rows that refer to them.
 fn add_next<S: Alter>(tx: &mut Transaction<'_, S>, alloc: Global, next: &Next) -> Result<(), Error>
     ensures same_reference { tx.new.conn.ghost_name ≡ tx.old.conn.ghost_name }
     ensures wrote { WritesMany (with_next next.now.rows.items next.now.records.items)
@@ -202,7 +208,7 @@ fn add_next<S: Alter>(tx: &mut Transaction<'_, S>, alloc: Global, next: &Next) -
     add_file_rows(tx, alloc, &next.rows)
 }
 
-// Adds records, by one statement where they are as many as that adds.
+// Adds records, with a single statement if there are exactly sixteen.
 fn add_new_records<S: Alter>(
     tx: &mut Transaction<'_, S>,
     alloc: Global,
@@ -221,7 +227,7 @@ fn add_new_records<S: Alter>(
     run_each::<AddsEach, NewRecord, S>(tx, records)
 }
 
-// Adds rows of a file, by one statement where they are as many as that adds.
+// Adds rows of a file, with a single statement if there are exactly sixteen.
 fn add_file_rows<S: Alter>(
     tx: &mut Transaction<'_, S>,
     alloc: Global,

@@ -1,5 +1,4 @@
-//! Each change of the facts, and each release: its statements in turn, with its reply in one
-//! transaction.
+//! Writes a change of the facts or a release, with its reply, in one transaction.
 #![tactic(auto)]
 
 mod cards;

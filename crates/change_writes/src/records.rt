@@ -1,5 +1,5 @@
-//! A record passes to another state, in an open transaction. A crash before its end leaves nothing
-//! of it.
+//! Changes the state of a record, in an open transaction. A crash before its commit leaves no trace
+//! of the change.
 ghost use Rattle.std.specs.Prelude.{◌≡◌, ◌^◌};
 ghost use Rattle.sqlite.specs.Held.{state};
 ghost use Rattle.sqlite.specs.State.{Survives};
@@ -16,7 +16,7 @@ use row_writes::{add_remake, set_record, set_totals};
 use sqlite::{Alter, Error, Transaction};
 use table_rows::RecordPlace;
 
-/// Writes how a record stands from now on, with its counts and its batch's counters.
+/// Writes the new state of a record, with its counts and the counters of its batch.
 pub(crate) fn write_record<S: Alter>(
     tx: &mut Transaction<'_, S>,
     place: &RecordPlace,
@@ -41,7 +41,8 @@ pub(crate) fn write_record<S: Alter>(
     set_totals(tx, place.batch, &place.totals)
 }
 
-/// A record passes from one state to another, with no more sessions spoiled, and no more remakes.
+/// Changes the state of a record from `was` to `stands`. The numbers of its spoiled sessions and
+/// remakes don't change.
 pub(crate) fn write_passed<S: Alter>(
     tx: &mut Transaction<'_, S>,
     place: &RecordPlace,
@@ -59,7 +60,7 @@ pub(crate) fn write_passed<S: Alter>(
     write_record(tx, &RecordPlace { totals, ..*place }, stands)
 }
 
-/// A record fails, since its running session is spoiled.
+/// Sets a record to failed, because its running session was spoiled.
 pub(crate) fn write_spoiled<S: Alter>(
     tx: &mut Transaction<'_, S>,
     place: &RecordPlace,
@@ -79,7 +80,8 @@ pub(crate) fn write_spoiled<S: Alter>(
     write_record(tx, &failed, RecordState::Failed)
 }
 
-/// What a word that leaves its session so makes of its record: where the session goes on, nothing.
+/// Updates a record after a status word that leaves its session in the state `stands`. If the
+/// session is still running, nothing changes.
 pub(crate) fn write_stop<S: Alter>(
     tx: &mut Transaction<'_, S>,
     place: &RecordPlace,
@@ -99,7 +101,7 @@ pub(crate) fn write_stop<S: Alter>(
     }
 }
 
-/// A failed record is remade, and waits again.
+/// Remakes a failed record, which is then waiting again.
 pub(crate) fn write_remake<S: Alter>(
     tx: &mut Transaction<'_, S>,
     place: &RecordPlace,

@@ -1,5 +1,5 @@
-//! A client's numbers are released, in an open transaction. A crash before its end leaves nothing
-//! of it.
+//! Releases request numbers of a client, in an open transaction. A crash before its commit leaves
+//! no trace of the release.
 ghost use Rattle.std.specs.Prelude.{◌≡◌, ◌<◌, ◌^◌};
 ghost use Rattle.sqlite.specs.Held.{state};
 ghost use Rattle.sqlite.specs.State.{Survives};
@@ -11,7 +11,7 @@ use row_writes::{add_mark, drop_mark, drop_replies};
 use sqlite::{Alter, Error, Transaction};
 use store_data::Name;
 
-/// The client's replies up to a number go, and its mark is there.
+/// Deletes the kept replies of `client` up to the request number `upto`, and sets its release mark.
 pub(crate) fn write_release<S: Alter>(
     tx: &mut Transaction<'_, S>,
     client: &Name,

@@ -1,17 +1,17 @@
-//! Which writings have numbers of SQL's alone.
+//! Checks that all numbers of a write are integers of SQL.
 ghost use Rattle.std.specs.Prelude.{◌↔◌, ◌-◌, ◌^◌, IsTrue};
 ghost use Rattle.change_writes.specs.Writable.{AreBelow, HasRoom, IsWritable};
 
 use job_facts::BatchTotals;
 use table_rows::{RecordPlace, Writing};
 
-/// SQL's numbers end below this.
+/// The upper limit of integers in SQL, which are less than this.
 pub(crate) const LIMIT: u64 = 1 << 63;
 
-/// A count below this can be one more.
+/// The limit for counts, so that each count can be increased by one.
 const COUNT_LIMIT: u64 = LIMIT - 1;
 
-// Whether each of a batch's counters can be one more.
+// Returns `true` if every counter of a batch can be increased by one.
 fn can_grow(totals: &BatchTotals) -> bool
     ensures { IsTrue result ↔ AreBelow (2 ^ 63 - 1) totals.now }
 {
@@ -24,8 +24,8 @@ fn can_grow(totals: &BatchTotals) -> bool
         && totals.spoiled < COUNT_LIMIT
 }
 
-// Whether SQL has a number for a record's place, and each count of the record and its batch can be
-// one more.
+// Returns `true` if the batch id and the position of the record are integers of SQL, and each count
+// of the record and its batch can be increased by one.
 fn has_room(place: &RecordPlace) -> bool
     ensures { IsTrue result ↔ HasRoom place.now }
 {
@@ -36,7 +36,8 @@ fn has_room(place: &RecordPlace) -> bool
         && can_grow(&place.totals)
 }
 
-/// Whether all that is put in is a number of SQL's. No statement tests this again.
+/// Returns `true` if all numbers that the statements of `writing` contain are integers of SQL. No
+/// statement checks this again.
 pub(crate) fn is_writable(writing: &Writing<'_>) -> bool
     ensures { IsTrue result ↔ IsWritable writing.now }
 {

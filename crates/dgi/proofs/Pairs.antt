@@ -1,4 +1,4 @@
--- Pairs of hexadecimal digits, decoded while all so far are digits.
+-- Lemmas about the loop that decodes pairs of hexadecimal digits.
 use Rattle.std.proofs.Common.{◌≡◌, ℕ, ◌+◌, ◌*◌, ◌%◌, ◌<◌, ◌≤◌, Bool, true, false, ◌&&◌, List, length, take, drop, slice_index, slice_set, Option, Some, None, unwrap_or, Result, Ok, Err, refl, ap, arith}
 use Rattle.std.proofs.lemmas.Bool.{lt-ltb}
 use Rattle.std.specs.Prelude.{IfSome, nat_lt, if◌then◌else◌}
@@ -8,16 +8,16 @@ use Rattle.hex.proofs.Pairs.{prepend, decode_done, decode_err, decode_step, deco
 use Rattle.dgi.specs.declared.fault.DgiFault.TheVariants.{NotHex}
 use Rattle.dgi.specs.Coding.{bytes_or_fault}
 
--- the value of a digit, or 255 of another byte
+-- the value of the digit `c`, or 255 if `c` isn't a digit
 abbrev pub value : ℕ → ℕ
 value c = unwrap_or (hex_digit_value c) 255
 
--- the byte that two bytes make where both are digits
+-- the byte of the digits `a` and `b`, if both are digits
 abbrev pub byte : ℕ → ℕ → ℕ
 byte a b = value a % 16 * 16 + value b % 16
 
--- where all bytes so far are digits, the first pairs make the first i bytes; else the text makes
--- none
+-- If all characters so far are digits, the first `i` bytes are decoded from the first pairs.
+-- Otherwise, decoding `text` fails.
 abbrev pub IsDecoded : List ℕ → List ℕ → ℕ → Bool → Type 0
 IsDecoded text bytes i true = decode_pairs 0 text ≡ prepend (take i bytes) (decode_pairs (2 * i) (drop (2 * i) text))
 IsDecoded text bytes i false = (e : FromHexError) × (decode_pairs 0 text ≡ Err e)
@@ -25,7 +25,7 @@ IsDecoded text bytes i false = (e : FromHexError) × (decode_pairs 0 text ≡ Er
 small : (c : ℕ) → IfSome (hex_digit_value c) (λ v. v < 16)
 small c = grind (arith)
 
--- what two bytes make
+-- If the flag is `true`, the pair decodes to the byte. Otherwise, decoding the pair fails.
 abbrev Makes : Bool → ℕ → Result ℕ FromHexError → Type 0
 Makes true v r = r ≡ Ok v
 Makes false v r = (e : FromHexError) × (r ≡ Err e)
@@ -50,7 +50,7 @@ step_of text bytes i v true true false fits room made was = (made.0, decode_err 
 step_of text bytes i v true false low fits room made was = (made.0, decode_err text bytes i made.0 fits made.1 was)
 step_of text bytes i v false high low fits room made was = was
 
--- one pair more
+-- one more pair
 pub step_decoded : (text bytes : List ℕ) (i : ℕ) (all : Bool) → 2 * i + 1 < length text → i < length bytes → IsDecoded text bytes i all
     → let a = slice_index text (2 * i) in let b = slice_index text (2 * i + 1) in
     IsDecoded text (slice_set bytes i (byte a b)) (i + 1) ((all && nat_lt (value a) 16) && nat_lt (value b) 16)
@@ -59,7 +59,7 @@ step_decoded text bytes i all fits room was =
     let b = slice_index text (2 * i + 1) in
     step_of text bytes i (byte a b) all (nat_lt (value a) 16) (nat_lt (value b) 16) fits room (make a b (2 * i)) was
 
--- all pairs
+-- the end of the loop
 pub decoded : (text bytes : List ℕ) (i : ℕ) (all : Bool) → length bytes ≤ i → length text ≤ 2 * i → IsDecoded text bytes i all
     → bytes_or_fault (decode_pairs 0 text) ≡ (if all then Ok bytes else Err NotHex)
 decoded text bytes i true done fits was = ap bytes_or_fault (decode_done text bytes i done fits was)

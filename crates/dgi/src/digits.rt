@@ -1,13 +1,15 @@
-//! Bytes out of pairs of hexadecimal digits.
+//! Decodes pairs of hexadecimal digits.
 
 ghost use Rattle.std.specs.Prelude.{◌≡◌, ◌*◌, length, unwrap_or, if◌then◌else◌};
 ghost use Rattle.hex.specs.Hex.{decode_pairs, hex_digit_value};
 ghost use Rattle.dgi.specs.declared.fault.DgiFault.TheVariants.{NotHex};
 ghost use Rattle.dgi.specs.Coding.{bytes_or_fault};
 
-/// Writes the byte of each two digits, in either case, and answers whether all are digits.
+/// Decodes each pair of digits in `text`, in either case, to one byte of `bytes`, high digit first.
+/// Returns `true` if all of `text` is digits. Otherwise, the contents of `bytes` are meaningless.
 ///
-/// It leaves at no byte before the end, so that the loop takes many at once.
+/// The loop doesn't stop at a wrong character, so that the compiler can process several bytes at
+/// once.
 pub fn decode(text: &[u8], bytes: &mut [u8]) -> bool
     requires { length text.now ≡ 2 * length bytes.old }
     ensures { bytes_or_fault (decode_pairs 0 text.now)
@@ -23,7 +25,7 @@ pub fn decode(text: &[u8], bytes: &mut [u8]) -> bool
     all
 }
 
-// The value of a digit, or 255 of another byte.
+// Returns the value of the hexadecimal digit `c`, or 255 if `c` isn't a digit.
 fn digit(c: u8) -> u8
     ensures { result ≡ unwrap_or (hex_digit_value c) 255 }
 {

@@ -1,4 +1,4 @@
--- A reply's line.
+-- The line of a response: its status, a space and its body, with LF at the end.
 use Rattle.std.proofs.Common.{◌≡◌, ℕ, List, [], ◌∷◌, ◌++◌, codes, cond, false, nat_eq, true, append_assoc, append-nil, sym, ap, ◌∙◌}
 use Rattle.std.specs.List.{ends_with}
 use Rattle.wire.specs.ReplyParts.{body_behind, status_in}

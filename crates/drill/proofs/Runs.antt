@@ -1,4 +1,4 @@
--- Lines that were done one after the other.
+-- Lines that are run one after another.
 use Rattle.std.proofs.Common.{◌≡◌, ◌<◌, ℕ, ◌+◌, true, List, [], ◌∷◌, ◌++◌, length, map, drop, get_or, Bor, Option, Some, None, Result, Ok, Err, refl, sym, ap, subst, ◌∙◌, append_assoc, append-nil, arith}
 use Rattle.std.specs.Prelude.{unwrap_or}
 use Rattle.std.specs.Io.KnownBytes.{Appends}
@@ -21,7 +21,7 @@ use Rattle.drill.specs.Steps.{Did, Steps}
 use Rattle.drill.specs.Ends.{AreDone, Done, DrillsOver, EndsAt, Goes, GoesOn, IsWritten, Runs, RunsAll, printed, unopened, unread}
 use Rattle.drill.proofs.ScriptLemmas.{here, text_of}
 
--- ---- lines behind lines
+-- ---- lines after other lines
 
 done_more : {S : Type 0} (state : S → State) (usable : S → Type 0) (s : S) (fl : Floor) (ls : List (List ℕ)) (ds es : List (Done S)) (m : S) (flm : Floor) (lm : List (List ℕ)) (last : S) (floor : Floor) (left : List (List ℕ))
     → AreDone state usable s fl ls ds m flm lm → AreDone state usable m flm lm es last floor left → AreDone state usable s fl ls (ds ++ es) last floor left
@@ -73,11 +73,12 @@ left_behind : (ls behind : List (Bor (List ℕ))) (at taken : ℕ) → behind �
 left_behind ls behind at taken rest =
     ap (λ xs. drop taken (map text_of xs)) rest ∙ ap (drop taken) (sym (drop-map text_of (at + 1) ls)) ∙ drop-drop taken (at + 1) (map text_of ls) ∙ ap (λ n. drop n (map text_of ls)) (omega arith)
 
--- an element by itself, whatever stands for one that isn't there
+-- An element of the list doesn't depend on the default value `d`.
 own : (ls : List (Bor (List ℕ))) (at : ℕ) (d : Bor (List ℕ)) → at < length ls → get_or ls at d ≡ get_or ls at (get_or ls at d)
 own ls at d within = sym (get_or_from_slice_get ls at (get_or ls at d) (get_or ls at d) (slice_get-get_or ls at d within))
 
--- one more line
+-- If the line at position `at` is run after the earlier lines, the lines after it remain, except
+-- the `taken` lines of its file.
 pub line_more : {S : Type 0} (state : S → State) (usable : S → Type 0) (s : S) (fl : Floor) (ls behind : List (Bor (List ℕ))) (at taken : ℕ) (d : Bor (List ℕ)) (a b c : Option (List ℕ)) (m : S) (flm : Floor) (last : S) (floor : Floor)
     → at < length ls → behind ≡ drop (at + 1) ls → Goes state usable s fl (map text_of ls) a b m flm (drop at (map text_of ls))
     → Goes state usable m flm ((get_or ls at d).now ∷ map text_of behind) b c last floor (drop taken (map text_of behind)) → Goes state usable s fl (map text_of ls) a c last floor (drop (at + (1 + taken)) (map text_of ls))
@@ -88,7 +89,7 @@ line_more state usable s fl ls behind at taken d a b c m flm last floor within r
     (goes_more state usable s fl texts a b c m flm (one.now ∷ map text_of behind) last floor (drop taken (map text_of behind))
     (subst (Goes state usable s fl texts a b m flm) (here ls behind texts at one refl within (own ls at d within) rest) so_far) next)
 
--- the line at which it ends
+-- After the earlier lines, a run that starts at position `at` completes the run of all lines.
 pub line_last : {S : Type 0} (state : S → State) (usable : S → Type 0) (s : S) (fl : Floor) (ls behind : List (Bor (List ℕ))) (at number : ℕ) (d : Bor (List ℕ)) (a b c : Option (List ℕ)) (m : S) (flm : Floor) (r : Result (Unit {0}) DrillStop)
     → at < length ls → number ≡ at + 1 → behind ≡ drop (at + 1) ls → Goes state usable s fl (map text_of ls) a b m flm (drop at (map text_of ls))
     → Runs state usable m flm (number + length behind) ((get_or ls at d).now ∷ map text_of behind) b c r → Runs state usable s fl (length ls) (map text_of ls) a c r
@@ -110,7 +111,7 @@ pub line_goes : {S : Type 0} (state : S → State) (usable : S → Type 0) (s se
 line_goes state usable s served store fl l behind did a b step goes wrote =
     (one_done did served store ∷ [], (step, goes, (refl, refl, refl)), subst (Appends a b) (sym (append-nil did.text)) wrote)
 
--- memory was refused before anything was printed
+-- If an allocation fails before anything is printed, the run ends with `Memory`.
 pub line_unmade : {S : Type 0} (state : S → State) (usable : S → Type 0) (s : S) (fl : Floor) (count : ℕ) (ls : List (List ℕ)) (a : Option (List ℕ)) → Runs state usable s fl count ls a a (Err stop.Memory)
 line_unmade state usable s fl count ls a = record { did = []; last = s; floor = fl; left = ls; ended_in = None; done = (refl, refl, refl); ends = tt; written = Appends-nil a }
 
@@ -132,7 +133,7 @@ pub line_unwritten : {S : Type 0} (state : S → State) (usable : S → Type 0) 
 line_unwritten state usable s served fl count l behind did a b step wrote =
     record { did = []; last = s; floor = fl; left = l ∷ behind; ended_in = Some did; done = (refl, refl, refl); ends = (served, step); written = wrote }
 
--- the store does not open over again
+-- The run ends if the store can't be opened again after the line.
 pub line_unopened : {S : Type 0} (state : S → State) (usable : S → Type 0) (s served : S) (fl : Floor) (count : ℕ) (l : List ℕ) (behind : List (List ℕ)) (did : Did) (a b : Option (List ℕ)) (why : StoreFault)
     → Steps state s served fl l behind (Some did) → Appends a b did.text → did.stops ≡ true → Runs state usable s fl count (l ∷ behind) a b (Err (unopened why))
 line_unopened state usable s served fl count l behind did a b fault.Memory step wrote stops =
@@ -160,7 +161,7 @@ all_run state usable s known a b (Err stop.ReadFailed) (raw, with_reply, run) = 
 all_run state usable s known a b (Err stop.WriteFailed) run = run
 all_run state usable s known a b (Err stop.Memory) run = run
 
--- its lines could not be read
+-- The run ends if the lines of the script can't be read.
 pub unread_all : {S : Type 0} (state : S → State) (usable : S → Type 0) (s : S) (known a : Option (List ℕ)) (r : Result (Unit {0}) DrillStop) (why : DrillStop) (fault : ReadFault) → r ≡ Err why → why ≡ unread fault
     → DrillsOver state usable s known a a r
 unread_all state usable s known a r why read.Failed is of = rw (is, of) (Keeps-refl a)

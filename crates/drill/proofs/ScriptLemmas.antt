@@ -1,4 +1,4 @@
--- The lines of a script that ask the server.
+-- The lines of a script that send a request to the server.
 use Rattle.std.proofs.Common.{◌≡◌, ℕ, ◌+◌, ◌-◌, ◌<◌, Bool, List, [], ◌∷◌, ◌++◌, codes, cond, drop, length, map, not, get_or, position, take, Bor, Option, Some, None, refl, sym, ap, arith, ◌∙◌}
 use Rattle.std.specs.Prelude.{bytes_eq, nat_lt, option_and_then, option_map}
 use Rattle.std.specs.List.{flat_map, prefix_len, position_or_len}
@@ -46,7 +46,7 @@ import_asked text number batch product m ls i step found is =
     ∙ sym (ap (option_and_then (λ s. asked_by s (map text_of ls))) step
     ∙ ap (λ o. import_by number batch product (file_by (map text_of ls) o)) (position-map (λ l. bytes_eq l (codes ".")) text_of ls ∙ found))
 
--- the line here, and those behind it
+-- The lines from position `at` on are the line at `at` and the lines after it.
 pub here : (ls behind : List (Bor (List ℕ))) (texts : List (List ℕ)) (at : ℕ) (one : Bor (List ℕ)) → map text_of ls ≡ texts → at < length ls → one ≡ get_or ls at one → behind ≡ drop (at + 1) ls
     → drop at texts ≡ one.now ∷ map text_of behind
 here ls behind texts at one same within is rest =

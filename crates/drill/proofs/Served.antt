@@ -1,4 +1,4 @@
--- The headline over lists.
+-- The main theorem for a list of inputs.
 use Rattle.std.proofs.Common.{◌≡◌, ℕ, List, [], ◌++◌, length, map, take, Some, refl, sym, ap, ◌∙◌}
 use Rattle.std.proofs.lemmas.List.{take_at, length-map}
 use Rattle.std.proofs.lemmas.Option.{same_Some}

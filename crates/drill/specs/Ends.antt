@@ -1,4 +1,4 @@
--- What a drill prints, and how it ends.
+-- The output and the end of a drill.
 use Rattle.std.specs.Prelude.{◌≡◌, ℕ, ◌+◌, Bool, true, false, List, [], ◌∷◌, ◌++◌, drop, length, codes, Option, None, Some, Result, Ok, Err, ⊤}
 use Rattle.std.specs.Fmt.{decimal}
 use Rattle.std.specs.List.{flat_map}
@@ -17,20 +17,20 @@ use Rattle.drill.specs.declared.stop.DrillStop.TheVariants as stop
 use Rattle.job_facts.specs.Reopening.{IsAnew, Reopens}
 use Rattle.drill.specs.Steps.{Did, Steps}
 
--- what a line did, the store behind it, and the store at the next line
+-- the effect of a line, the store after it, and the store for the next line
 pub record Done (S : Type 0) : Type 0 where
   pub did : Did
   pub served : S
   pub store : S
 
--- a server that stops is opened over again: its store has reported no fault yet, and holds what it
--- held unless a fault had shut it
+-- after a crash the store is opened again: it has reported no fault yet, and has the same contents
+-- as before, unless a fault had made it unusable
 abbrev pub GoesOn : {S : Type 0} → (S → State) → (S → Type 0) → S → S → Bool → Type 0
 GoesOn state usable served store true = IsAnew (state store) × (usable served → Reopens (state served) (state store))
 GoesOn state usable served store false = store ≡ served
 
--- these lines did this one after the other, from a store and a shop floor to others, and then those
--- are left
+-- the first lines of `ls` had these effects, one after another, and led from the store `s` and the
+-- shop floor `fl` to `last` and `floor`; the lines `left` remain
 abbrev pub AreDone : {S : Type 0} → (S → State) → (S → Type 0) → S → Floor → List (List ℕ) → List (Done S) → S → Floor → List (List ℕ) → Type 0
 AreDone state usable s fl ls [] last floor left = (s ≡ last) × (fl ≡ floor) × (ls ≡ left)
 AreDone state usable s fl [] (d ∷ ds) last floor left = ⊥
@@ -38,18 +38,19 @@ AreDone state usable s fl (l ∷ behind) (d ∷ ds) last floor left =
     Steps state s d.served fl l behind (Some d.did) × GoesOn state usable d.served d.store d.did.stops
     × AreDone state usable d.store d.did.floor (drop d.did.taken behind) ds last floor left
 
--- the next line has no form of the drill's, or names what isn't there; the first line is 1
+-- line `n`, counted from 1, is the next one, and it is malformed or names something that doesn't
+-- exist
 abbrev pub IsBadLine : {S : Type 0} → (S → State) → S → Floor → ℕ → ℕ → List (List ℕ) → Type 0
 IsBadLine {S} state s fl count n [] = ⊥
 IsBadLine {S} state s fl count n (l ∷ behind) = (after : S) × Steps state s after fl l behind None × (n + length behind ≡ count)
 
--- the first of these lines did this, and nothing goes on behind it
+-- the first of these lines had this effect, and the drill ends after it
 abbrev pub IsLast : {S : Type 0} → (S → State) → S → Floor → List (List ℕ) → Did → Type 0
 IsLast {S} state s fl [] did = ⊥
 IsLast {S} state s fl (l ∷ behind) did = (served : S) × Steps state s served fl l behind (Some did)
 
--- why it ends in a line that was done: it is not printed whole, or the server stops and its store
--- does not open over again
+-- the reason why a drill ends after a line was run: its output wasn't written completely, or the
+-- store can't be opened again after a crash
 abbrev pub EndsIn : {S : Type 0} → (S → State) → S → Floor → List (List ℕ) → Did → DrillStop → Type 0
 EndsIn state s fl left did (stop.BadLine n) = ⊥
 EndsIn state s fl left did stop.WriteFailed = IsLast state s fl left did
@@ -57,7 +58,8 @@ EndsIn state s fl left did stop.Memory = IsLast state s fl left did × (did.stop
 EndsIn state s fl left did stop.Storage = IsLast state s fl left did × (did.stops ≡ true)
 EndsIn state s fl left did stop.ReadFailed = ⊥
 
--- why it ends where these lines are left, of so many, and perhaps the first of them was done
+-- the reason why a drill of `count` lines ends while the lines `left` remain; the first of them may
+-- have been run
 abbrev pub EndsAt : {S : Type 0} → (S → State) → S → Floor → ℕ → List (List ℕ) → Option Did → Result (Unit {0}) DrillStop → Type 0
 EndsAt state s fl count left None (Ok u) = left ≡ []
 EndsAt state s fl count left None (Err (stop.BadLine n)) = IsBadLine state s fl count n left
@@ -68,7 +70,7 @@ EndsAt state s fl count left None (Err stop.ReadFailed) = ⊥
 EndsAt state s fl count left (Some did) (Ok u) = ⊥
 EndsAt state s fl count left (Some did) (Err why) = EndsIn state s fl left did why
 
--- the text of these lines was written, or a beginning of it where the writer failed
+-- `text` was written, or only a prefix of it if the writer failed
 abbrev pub IsWritten : Option (List ℕ) → Option (List ℕ) → List ℕ → Result (Unit {0}) DrillStop → Type 0
 IsWritten before after text (Err stop.WriteFailed) = AppendsBeginning before after text
 IsWritten before after text (Ok u) = Appends before after text
@@ -81,7 +83,8 @@ abbrev pub printed : {S : Type 0} → List (Done S) → Option Did → List ℕ
 printed ds None = flat_map (λ d. d.did.text) ds
 printed ds (Some last) = flat_map (λ d. d.did.text) ds ++ last.text
 
--- the lines of a script, of so many in all, from a store and a shop floor on
+-- the run of the lines `ls`, the last ones of a script of `count` lines, from the store `s` and the
+-- shop floor `fl`
 pub record Runs {S : Type 0} (state : S → State) (usable : S → Type 0) (s : S) (fl : Floor) (count : ℕ) (ls : List (List ℕ)) (before after : Option (List ℕ)) (result : Result (Unit {0}) DrillStop) : Type 0 where
   pub did : List (Done S)
   pub last : S
@@ -92,12 +95,12 @@ pub record Runs {S : Type 0} (state : S → State) (usable : S → Type 0) (s : 
   pub ends : EndsAt state last floor count left ended_in result
   pub written : IsWritten before after (printed did ended_in) result
 
--- all lines of a script, from an empty shop floor; what the reader gives is the script
+-- the run of all lines of the script `known`, from an empty shop floor
 abbrev pub RunsAll : {S : Type 0} → (S → State) → (S → Type 0) → S → Option (List ℕ) → Option (List ℕ) → Option (List ℕ) → Result (Unit {0}) DrillStop → Type 0
 RunsAll state usable s known before after result =
     (raw : List ℕ) × Agrees known raw × Runs state usable s empty_floor (length (lines raw)) (lines raw) before after result
 
--- nothing was printed where the reader failed
+-- the run of a script; if the reader failed, nothing was printed
 abbrev pub DrillsOver : {S : Type 0} → (S → State) → (S → Type 0) → S → Option (List ℕ) → Option (List ℕ) → Option (List ℕ) → Result (Unit {0}) DrillStop → Type 0
 DrillsOver state usable s known before after (Err stop.ReadFailed) = Keeps before after
 DrillsOver state usable s known before after (Ok u) = RunsAll state usable s known before after (Ok u)
@@ -106,7 +109,7 @@ DrillsOver state usable s known before after (Err stop.WriteFailed) = RunsAll st
 DrillsOver state usable s known before after (Err stop.Memory) = RunsAll state usable s known before after (Err stop.Memory)
 DrillsOver state usable s known before after (Err stop.Storage) = RunsAll state usable s known before after (Err stop.Storage)
 
--- the words of an end that is printed
+-- the text of a reason to stop
 abbrev pub stop_text : DrillStop → List ℕ
 stop_text (stop.BadLine n) = codes "bad line " ++ decimal n
 stop_text stop.Storage = codes "the store did not open"
@@ -114,9 +117,10 @@ stop_text stop.ReadFailed = codes "the reader failed"
 stop_text stop.WriteFailed = codes "the writer failed"
 stop_text stop.Memory = codes "memory was refused"
 
--- ---- the steps on the way
+-- ---- intermediate results
 
--- from a store and a shop floor to others, with what was printed
+-- the lines before `left` lead from the store `s` and the shop floor `fl` to `last` and `floor`,
+-- and their output was written
 abbrev pub Goes : {S : Type 0} → (S → State) → (S → Type 0) → S → Floor → List (List ℕ) → Option (List ℕ) → Option (List ℕ) → S → Floor → List (List ℕ) → Type 0
 Goes {S} state usable s fl ls before after last floor left =
     (ds : List (Done S)) × AreDone state usable s fl ls ds last floor left × Appends before after (printed ds None)

@@ -1,5 +1,5 @@
--- The shop floor of a drill: machines, packets and replies, what its lines do to them, and what
--- they print (this project's profile).
+-- The shop floor of a drill: machines, packets and replies, the effect of each line on them, and
+-- its output (this project's profile).
 use Rattle.std.specs.Prelude.{◌≡◌, ℕ, ◌+◌, ◌-◌, ◌==◌, ◌&&◌, Bool, if◌then◌else◌, List, [], ◌∷◌, ◌++◌, length, bytes_eq, codes, position, slice_get, slice_set, Option, Some, None, option_map, option_and_then, Result, Ok, Err, Vec}
 use Rattle.std.specs.Global.{Global}
 use Rattle.std.specs.List.{list_any}
@@ -18,7 +18,7 @@ use Rattle.drill.specs.declared.sent.Returned.{Returned}
 use Rattle.drill.specs.declared.turn.Turn.{Turn}
 use Rattle.drill.specs.declared.turn.Turn.TheVariants as turn
 
--- the feeders of the machines that are there, the boots that they used, and all packets and
+-- the feeders of the started machines, the boot numbers that they used, and all packets and
 -- replies, the oldest first
 pub record Floor : Type 0 where
   pub machines : List FeederState
@@ -29,7 +29,7 @@ pub record Floor : Type 0 where
 abbrev pub empty_floor : Floor
 empty_floor = record { machines = []; boots = []; packets = []; replies = [] }
 
--- what a line makes of it, and prints
+-- the shop floor after a line, and the output of the line
 abbrev pub Turned : Type 0
 Turned = Floor × List ℕ
 
@@ -56,7 +56,7 @@ is_machine name f = bytes_eq f.machine name
 abbrev pub place_of : List ℕ → Floor → Option ℕ
 place_of name fl = position (is_machine name) fl.machines
 
--- a machine that is there, and its place
+-- the feeder of the machine `name` and its position
 abbrev pub machine_in : List ℕ → Floor → Option (ℕ × FeederState)
 machine_in name fl = option_and_then (λ i. option_map (λ f. (i, f)) (slice_get fl.machines i)) (place_of name fl)
 
@@ -72,7 +72,7 @@ abbrev pub comes : Floor → FeederState → Option ℕ → Floor
 comes fl f None = record fl { machines = fl.machines ++ f ∷ [] }
 comes fl f (Some i) = with_machine fl i f
 
--- it loses what it knew, and starts with a boot that it never had
+-- a machine loses its state and starts, unless it had the boot number before
 abbrev pub powered : List ℕ → ℕ → Floor → Floor
 powered name boot fl =
     if list_any (is_boot name boot) fl.boots then fl
@@ -101,11 +101,11 @@ abbrev pub sent_by : Floor → Option Packet → Turned
 sent_by fl None = (fl, line (codes "nothing"))
 sent_by fl (Some packet) = (record fl { packets = fl.packets ++ packet ∷ [] }, packet_text (length fl.packets + 1))
 
--- what is asked is sent, as often as it is
+-- the pending request of a machine is sent, each time that the line is run
 abbrev pub sent : List ℕ → Floor → Option Turned
 sent name fl = option_map (λ (p : ℕ × FeederState). sent_by fl (option_map (packet_of p.1) (asked p.1))) (machine_in name fl)
 
--- packets and replies count from 1
+-- packets and replies are numbered from 1
 abbrev pub packet_at : Floor → ℕ → Option Packet
 packet_at fl k = slice_get fl.packets (k - 1)
 
@@ -117,12 +117,12 @@ reply_at fl j = slice_get fl.replies (j - 1)
 abbrev pub with_reply : List ℕ → ℕ → List ℕ → Floor → Floor
 with_reply machine number bytes fl = record fl { replies = fl.replies ++ record { machine = machine; number = number; bytes = bytes } ∷ [] }
 
--- what has no reply's text changes nothing
+-- bytes that aren't a reply change nothing
 abbrev pub heard : Floor → ℕ → Option Reply → ℕ × FeederState → Turned
 heard fl number None p = (fl, act_text Wait)
 heard fl number (Some reply) p = acts fl p.0 (after_reply p.1 number reply)
 
--- a reply to a machine's request of this number reaches it, whatever its boot is now
+-- a reply to request `number` reaches the machine, regardless of its present boot
 abbrev pub backed : List ℕ → ℕ → Option Reply → Floor → Option Turned
 backed machine number reply fl = option_map (heard fl number reply) (machine_in machine fl)
 
@@ -135,7 +135,7 @@ GoesBack fl j made = BackBy fl (reply_at fl j) made
 
 -- ---- lines
 
--- nothing where the line names what isn't there
+-- the result of a turn, or `None` if it names a machine or a reply that doesn't exist
 abbrev pub Turns : Floor → Turn → Option Turned → Type 0
 Turns fl (turn.Power machine boot) made = made ≡ Some (powered machine boot fl, line (codes "ok"))
 Turns fl (turn.Insert machine batch blank) made = made ≡ inserted machine batch blank fl
@@ -143,7 +143,7 @@ Turns fl (turn.Send machine) made = made ≡ sent machine fl
 Turns fl (turn.Card machine sw) made = made ≡ carded machine sw fl
 Turns fl (turn.Back j) made = GoesBack fl j made
 
--- ---- what the code calls them
+-- ---- the values of the code
 
 abbrev pub turned : Floor → Option (Vec ℕ Global) → Option Turned
 turned fl text = option_map (λ v. (fl, v.items)) text

@@ -1,4 +1,4 @@
--- The lines of a drill that ask the server (this project's profile).
+-- The lines of a drill that send a request to the server (this project's profile).
 use Rattle.std.specs.Prelude.{ℕ, ◌==◌, ◌&&◌, not, nat_lt, List, ◌++◌, length, bytes_eq, codes, Option, Some, None, option_map, option_and_then, if◌then◌else◌}
 use Rattle.std.specs.List.{flat_map, list_any}
 use Rattle.store_data.specs.Name.{is_name}
@@ -10,29 +10,29 @@ use Rattle.wire.specs.RequestHeads.{request_head}
 use Rattle.drill.specs.declared.script.Step.{Step as Parsed}
 use Rattle.drill.specs.declared.script.Step.TheVariants as parsed
 
--- ---- what lines ask
+-- ---- the requests of lines
 
 pub data Step : Type 0 where
   Office : (number body : List ℕ) → Step
   Import : (number batch product : List ℕ) → Step
   Get : (target : List ℕ) → Step
 
--- a client's number, and what stands behind it
+-- a request number and the rest of the line
 abbrev pub numbered : List ℕ → Option (List ℕ × List ℕ)
 numbered words = option_and_then (λ p. if is_number p.0 then Some p else None) (word_of words)
 
--- a request under a number
+-- a request number and a body
 abbrev pub office_of : List ℕ → Option Step
 office_of words = option_map (λ p. Office p.0 p.1) (numbered words)
 
--- a batch for a product, under a number
+-- a request number, a batch and a product
 abbrev pub named : List ℕ → List ℕ → List ℕ → Option Step
 named number batch product = if is_name batch && is_name product then Some (Import number batch product) else None
 
 abbrev pub import_of : List ℕ → Option Step
 import_of words = option_and_then (λ p. option_and_then (λ q. named p.0 q.0 q.1) (word_of p.1)) (numbered words)
 
--- one word
+-- a target, which is one word
 abbrev pub target_of : List ℕ → Option Step
 target_of words = if nat_lt 0 (length words) && not (list_any (λ b. b == 32) words) then Some (Get words) else None
 
@@ -43,24 +43,24 @@ step_by word words =
     else if bytes_eq word (codes "import") then import_of words
     else None
 
--- what a line asks, if it has a form
+-- the request of a line
 abbrev pub step_of : List ℕ → Option Step
 step_of text = option_and_then (λ p. step_by p.0 p.1) (word_of text)
 
 -- ---- the messages (RFC 9112)
 
--- of the client `office`, by what follows it in the target
+-- the POST of the client `office`; `target` is the part of the target after the client
 abbrev pub post : List ℕ → List ℕ → List ℕ
 post target body = request_head (codes "/c/office/" ++ target) (length body) ++ body
 
 abbrev pub get : List ℕ → List ℕ
 get target = codes "GET " ++ target ++ codes " HTTP/1.1\r\nHost: localhost\r\n\r\n"
 
--- the lines before the first line `.`, and those behind it
+-- the lines before and after the first line `.`
 abbrev pub file_in : List (List ℕ) → Option (List (List ℕ) × List (List ℕ))
 file_in behind = cut (λ l. bytes_eq l (codes ".")) behind
 
--- the message of a step, and the lines that it leaves; each line of a file ends in LF
+-- the message of a request, and the lines after its file; each line of a file ends with LF
 abbrev pub asked_by : Step → List (List ℕ) → Option (List ℕ × List (List ℕ))
 asked_by (Office number body) behind = Some (post number body, behind)
 asked_by (Import number batch product) behind =
@@ -70,7 +70,7 @@ asked_by (Get target) behind = Some (get target, behind)
 abbrev pub asked : List ℕ → List (List ℕ) → Option (List ℕ × List (List ℕ))
 asked text behind = option_and_then (λ s. asked_by s behind) (step_of text)
 
--- ---- what the code calls them
+-- ---- the values of the code
 
 abbrev pub shown : Parsed → Step
 shown (parsed.Office number body) = Office number.now body.now

@@ -1,4 +1,4 @@
--- What each line of a drill does, and prints (this project's profile).
+-- The effect and the output of each line of a drill (this project's profile).
 use Rattle.std.specs.Prelude.{◌≡◌, ℕ, ◌+◌, nat_eq, Bool, true, false, if◌then◌else◌, List, [], ◌∷◌, ◌++◌, drop, length, codes, Option, Some, None, option_map}
 use Rattle.std.specs.Fmt.{decimal}
 use Rattle.std.specs.List.{ends_with}
@@ -18,8 +18,8 @@ use Rattle.drill.specs.declared.step.Did.{Did as DidValue}
 use Rattle.drill.specs.Deliveries.{delivery_of}
 use Rattle.drill.specs.Scripts.{asked}
 
--- what is there after a line, how many lines behind it were its file, what it printed, and whether
--- the server stops then
+-- the effect of a line: the shop floor after it, how many of the following lines were its file, its
+-- output, and whether the server crashes in it
 pub record Did : Type 0 where
   pub floor : Floor
   pub taken : ℕ
@@ -28,11 +28,11 @@ pub record Did : Type 0 where
 
 -- ---- texts
 
--- a body that doesn't end in LF gets one
+-- `body` with LF at its end, which is added if it is missing
 abbrev pub ended : List ℕ → List ℕ
 ended body = if ends_with nat_eq body (codes "\n") then body else line body
 
--- a reply's status, a space and its body
+-- the status of a response, a space and its body
 abbrev pub reply_line : List ℕ → List ℕ
 reply_line reply = status_in reply ++ 32 ∷ ended (body_behind reply)
 
@@ -41,14 +41,14 @@ reply_number j = codes "reply " ++ (decimal j ++ 32 ∷ [])
 
 -- ---- the server
 
--- a message is served, and its reply comes whole
+-- `message` is served, and `reply` is its complete response
 abbrev pub Answers : {S : Type 0} → (S → State) → S → S → List ℕ → List ℕ → Type 0
 Answers state old new message reply =
     (e : Exchange) × (e.input ≡ message) × Serves (state old) (state new) e × (e.served.end ≡ Answered) × (e.written ≡ reply)
 
--- ---- lines that ask the server
+-- ---- lines that send a request to the server
 
--- with the lines that are its file
+-- the request is sent, and the lines of its file are taken
 abbrev pub AsksBy : {S : Type 0} → (S → State) → S → S → Floor → List (List ℕ) → Option (List ℕ × List (List ℕ)) → Option Did → Type 0
 AsksBy state old new fl behind None did = did ≡ None
 AsksBy state old new fl behind (Some p) did =
@@ -58,9 +58,9 @@ AsksBy state old new fl behind (Some p) did =
 abbrev pub Asks : {S : Type 0} → (S → State) → S → S → Floor → List ℕ → List (List ℕ) → Option Did → Type 0
 Asks state old new fl text behind did = AsksBy state old new fl behind (asked text behind) did
 
--- ---- lines that bring a packet
+-- ---- lines that deliver a packet
 
--- its reply is kept
+-- the response is stored
 abbrev pub delivered : Packet → List ℕ → Floor → Did
 delivered p reply fl = record {
   floor = with_reply p.machine p.number reply fl;
@@ -69,12 +69,12 @@ delivered p reply fl = record {
   stops = false;
 }
 
--- the server stops
+-- the server crashes
 abbrev pub stopped : Floor → Did
 stopped fl = record { floor = fl; taken = 0; text = line (codes "stopped"); stops = true }
 
--- for the first time or again; at a stop before the commit nothing is handed to the store, and at
--- one behind it nobody gets the reply
+-- a packet is delivered, for the first time or again; if the server crashes before the commit, the
+-- store is unchanged; if it crashes after the commit, the response is lost
 abbrev pub Brings : {S : Type 0} → (S → State) → S → S → Floor → Stop → Option Packet → Option Did → Type 0
 Brings state old new fl stop.No (Some p) did = (reply : List ℕ) × Answers state old new p.message reply × (did ≡ Some (delivered p reply fl))
 Brings state old new fl stop.Before (Some p) did = (new ≡ old) × (did ≡ Some (stopped fl))
@@ -86,7 +86,7 @@ Brings state old new fl stop.After None did = did ≡ None
 abbrev pub Delivers : {S : Type 0} → (S → State) → S → S → Floor → Delivery → Option Did → Type 0
 Delivers state old new fl d did = Brings state old new fl d.stop (packet_at fl d.packet) did
 
--- ---- lines that the server has no part in
+-- ---- lines in which the server has no part
 
 abbrev pub plain : Turned → Did
 plain t = record { floor = t.0; taken = 0; text = t.1; stops = false }
@@ -104,12 +104,12 @@ abbrev pub ByTurn : {S : Type 0} → (S → State) → S → S → Floor → Lis
 ByTurn state old new fl text behind None did = ByDelivery state old new fl text behind (delivery_of text) did
 ByTurn state old new fl text behind (Some t) did = (new ≡ old) × Moves fl t did
 
--- what a line does with the lines behind it; nothing where it has no form of the drill's, or names
--- what isn't there
+-- the effect of a line with the lines after it, or `None` if the line is malformed or names
+-- something that doesn't exist
 abbrev pub Steps : {S : Type 0} → (S → State) → S → S → Floor → List ℕ → List (List ℕ) → Option Did → Type 0
 Steps state old new fl text behind did = ByTurn state old new fl text behind (turn_of text) did
 
--- ---- what the code calls them
+-- ---- the values of the code
 
 abbrev pub did_view : Floor → DidValue → Did
 did_view fl did = record { floor = fl; taken = did.taken; text = did.text.items; stops = did.stops }

@@ -11,14 +11,14 @@ use Rattle.drill.specs.declared.turn.Turn.TheVariants as turn
 abbrev pub name_of : List ℕ → Option (List ℕ)
 name_of text = if is_name text then Some text else None
 
--- a machine's name, which isn't that of the office
+-- the name of a machine, which must not be `office`
 abbrev pub machine_of : List ℕ → Option (List ℕ)
 machine_of text = if bytes_eq text (codes "office") then None else name_of text
 
 abbrev pub serial_of : List ℕ → Option ℕ
 serial_of text = number_within 0 (10 ^ 18 - 1) text
 
--- packets and replies count from 1
+-- packets and replies are numbered from 1
 abbrev pub count_of : List ℕ → Option ℕ
 count_of text = number_within 1 (10 ^ 18 - 1) text
 
@@ -52,11 +52,11 @@ turn_by word words =
     else if bytes_eq word (codes "back") then option_map (λ j. turn.Back j) (count_of words)
     else None
 
--- what a line does, if it has a form of these
+-- the event of a line
 abbrev pub turn_of : List ℕ → Option Turn
 turn_of text = option_and_then (λ (p : List ℕ × List ℕ). turn_by p.0 p.1) (word_of text)
 
--- ---- its numbers are in their ranges
+-- ---- the numbers of an event are in their ranges
 
 abbrev pub IsTurn : Turn → Type 0
 IsTurn (turn.Power machine boot) = (1 ≤ boot) × (boot ≤ 9999999999)

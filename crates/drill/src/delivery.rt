@@ -1,4 +1,4 @@
-//! The lines that bring a packet to the server.
+//! Parses the lines that deliver a packet to the server.
 ghost use Rattle.std.specs.Prelude.{◌≡◌, ◌≤◌, IfSome};
 ghost use Rattle.drill.specs.Deliveries.{delivery_of, delivery_to, stop_of};
 
@@ -6,15 +6,15 @@ use crate::turn::count_of;
 use feeder::Stop;
 use text_io::word_of;
 
-/// A packet that arrives, and whether the server stops then.
+/// The delivery of a packet, and the moment at which the server crashes, if it does.
 #[derive(Clone, Copy)]
 pub(crate) struct Delivery {
-    /// They count from 1.
+    /// The number of the packet, from 1.
     pub(crate) packet: u64,
     pub(crate) stop: Stop,
 }
 
-/// What a line brings, if it has the form `deliver K`, `stop-before K` or `stop-after K`.
+/// Parses `deliver K`, `stop-before K` or `stop-after K`. Returns `None` for any other line.
 pub(crate) fn delivery_of(line: &[u8]) -> Option<Delivery>
     ensures value { result ≡ delivery_of line.now }
     ensures least { IfSome result (λ d. 1 ≤ d.packet) }
@@ -24,7 +24,7 @@ pub(crate) fn delivery_of(line: &[u8]) -> Option<Delivery>
     delivery_to(stop, words)
 }
 
-// By the line's first word.
+// Returns the moment of the crash that the first word of a line names.
 fn stop_of(word: &[u8]) -> Option<Stop>
     ensures { result ≡ stop_of word.now }
 {

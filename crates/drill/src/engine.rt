@@ -1,4 +1,4 @@
-//! The engine of a drill.
+//! Runs the lines of a script.
 ghost use Rattle.std.specs.Prelude.{◌≡◌, ◌+◌, ◌≤◌, ◌∷◌, IfErr, IfOk, Err, drop, length, map};
 ghost use Rattle.std.specs.Prelude.{true};
 ghost use Rattle.drill.specs.Floors.{empty_floor};
@@ -12,16 +12,25 @@ use std::alloc::Global;
 use std::io::{Read, Write};
 use text_io::{lines_of, read_whole, write_text};
 
-/// Does the lines of a script in turn, over this store and a shop floor without machines, and
-/// prints of each what it came to, as it goes. The lines are `office N JSON`, `import N BATCH
-/// PRODUCT` with the lines of a batch file up to a line `.`, `get TARGET`, `power M BOOT`,
-/// `insert M BATCH SERIAL`, `send M`, `deliver K`, `back J`, `card M SW`, `stop-before K` and
-/// `stop-after K` (this project's profile).
+/// Runs the lines of a script with `store` and a shop floor that has no machines yet, and writes
+/// the result of each line to `writer` before it runs the next line. The lines are `office N JSON`,
+/// `import N BATCH PRODUCT` with the lines of a batch file up to a line `.`, `get TARGET`, `power M
+/// BOOT`, `insert M BATCH SERIAL`, `send M`, `deliver K`, `back J`, `card M SW`, `stop-before K`
+/// and `stop-after K` (this project's profile).
 ///
-/// It reads the script whole at first, and leaves it to the caller to flush. Errors: the first line
-/// of another form, or that names what isn't there, before which all is done and printed; a read or
-/// a write that fails; a store that does not open over again; refused memory. A request for which
-/// memory was refused is answered 503.
+/// The script is read completely at first. The caller flushes `writer`. If an allocation fails
+/// while a request is served, the response has status 503.
+///
+/// The contract describes only the output as a whole. It doesn't say when the result of a line is
+/// written, or how many lines were run before a failed write.
+///
+/// # Errors
+///
+/// - `BadLine`: a line is malformed, or names a machine, packet or reply that doesn't exist. All
+///   lines before it were run.
+/// - `Storage`: the store can't be opened again after a crash.
+/// - `ReadFailed`, `WriteFailed`: a read or a write fails.
+/// - `Memory`: an allocation fails.
 pub fn drill_over<S: Reopen + Drop, R: Read, W: Write>(
     alloc: Global,
     store: S,
@@ -36,7 +45,7 @@ pub fn drill_over<S: Reopen + Drop, R: Read, W: Write>(
     do_lines(alloc, store, lines.as_slice(), writer)
 }
 
-// Does these lines.
+// Runs `lines`.
 fn do_lines<S: Reopen + Drop, W: Write>(
     alloc: Global,
     mut store: S,
@@ -58,7 +67,7 @@ fn do_lines<S: Reopen + Drop, W: Write>(
     Ok(())
 }
 
-// Does the line of this number, and returns the store behind it and how many lines were its file.
+// Runs one line. Returns the store after it, and how many of the following lines were its file.
 fn do_line<S: Reopen + Drop, W: Write>(
     alloc: Global,
     floor: &mut Floor,
@@ -85,7 +94,7 @@ fn do_line<S: Reopen + Drop, W: Write>(
     Ok((store, taken))
 }
 
-// The store at the next line, where the server stops or goes on.
+// Returns the store for the next line: the same one, or after a crash the reopened one.
 fn go_on<S: Reopen>(alloc: Global, store: S, stops: bool) -> Result<S, StoreFault>
     ensures goes { IfOk result (λ next. GoesOn S.state S.usable store next stops) }
     ensures stopped { IfErr result (λ _. stops ≡ true) }

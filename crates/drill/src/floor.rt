@@ -1,4 +1,4 @@
-//! The machines of a drill, the packets that they sent, and the replies that were given.
+//! The shop floor of a drill: machines, the packets that they sent, and the replies.
 ghost use Rattle.std.specs.Prelude.{◌≡◌, ◌≤◌, ◌<◌, ◌^◌, IfOk, IfSome, OnOk, length, option_map};
 ghost use Rattle.std.specs.List.{list_any};
 ghost use Rattle.feeder.specs.Table.{asked, started};
@@ -18,7 +18,8 @@ use std::marker::Model;
 use store_data::{Bytes, Name};
 use wire::{parse_reply, request_text};
 
-/// Machines, the boots that they used, and all packets and replies, the oldest first.
+/// A shop floor: the machines, the boot numbers that they used, and all packets and replies, the
+/// oldest first.
 #[derive(Drop)]
 pub struct Floor {
     machines: Vec<Feeder>,
@@ -41,7 +42,7 @@ impl Model for Floor {
 }
 
 impl Floor {
-    /// No machine is there, and nothing was sent.
+    /// Creates a shop floor without machines, packets and replies.
     pub fn new(alloc: Global) -> Floor
         ensures { result ≡ empty_floor }
     {
@@ -53,8 +54,12 @@ impl Floor {
         }
     }
 
-    /// Does what a line says, and returns the line that is printed. `None` where it names a machine
-    /// or a reply that isn't there. It fails only where memory is refused.
+    /// Runs `turn`, and returns the line to print, or `None` if the turn names a machine or a reply
+    /// that doesn't exist.
+    ///
+    /// # Errors
+    ///
+    /// Fails only if an allocation fails.
     pub fn turn(&mut self, alloc: Global, turn: Turn) -> Result<Option<Vec<u8>>, AllocError>
         requires { IsTurn turn }
         ensures { IfOk result (λ text. Turns self.old turn (turned self.new text)) }
@@ -75,7 +80,7 @@ impl Floor {
         }
     }
 
-    // Where a machine is.
+    // Returns the position of the machine `name`.
     fn place_of(&self, name: &Name) -> Option<usize>
         ensures place { result ≡ place_of name.now self.now }
         ensures within { IfSome result (λ i. i < length self.now.machines) }
@@ -85,7 +90,7 @@ impl Floor {
             .position(|feeder| feeder.machine().bytes() == name.bytes())
     }
 
-    // A machine loses what it knew, and starts with a boot that it never had.
+    // A machine loses its state and starts, unless it had the boot number before.
     fn power(&mut self, machine: Name, boot: u64) -> Result<(), AllocError>
         requires least { 1 ≤ boot }
         requires most { boot ≤ 9999999999 }
@@ -120,7 +125,7 @@ impl Floor {
         Ok(())
     }
 
-    // Puts a card into a machine.
+    // Inserts a card into a machine.
     fn insert(
         &mut self,
         alloc: Global,
@@ -141,7 +146,7 @@ impl Floor {
         }
     }
 
-    // What a machine asks becomes a packet.
+    // A machine sends its pending request as a packet.
     fn send(&mut self, alloc: Global, machine: &Name) -> Result<Option<Vec<u8>>, AllocError>
         ensures { IfOk result (λ text. turned self.new text ≡ sent machine.now self.old) }
     {
@@ -155,7 +160,7 @@ impl Floor {
         Ok(Some(packet_line(alloc, self.packets.len())?))
     }
 
-    // A card gives a status word.
+    // The card in a machine returns a status word.
     fn card(
         &mut self,
         alloc: Global,
@@ -171,7 +176,7 @@ impl Floor {
         Ok(Some(act_line(alloc, act)?))
     }
 
-    // A reply reaches the machine that sent its packet.
+    // A reply reaches the machine that sent the packet.
     fn back(&mut self, alloc: Global, reply: u64) -> Result<Option<Vec<u8>>, AllocError>
         requires { 1 ≤ reply }
         ensures { IfOk result (λ text. GoesBack self.old reply (turned self.new text)) }
@@ -186,7 +191,7 @@ impl Floor {
         text
     }
 
-    // A machine hears what is there of a reply to the request of this number.
+    // A machine handles the reply to request `number`, if it is one.
     fn hear(
         &mut self,
         alloc: Global,
@@ -209,7 +214,7 @@ impl Floor {
         }
     }
 
-    /// A packet. They count from 1.
+    /// Returns packet number `packet`, from 1, or `None` if it doesn't exist.
     pub fn packet(&self, packet: u64) -> Option<&Packet>
         requires { 1 ≤ packet }
         ensures { option_map (λ p. p.now) result ≡ packet_at self.now packet }
@@ -217,8 +222,11 @@ impl Floor {
         self.packets.get((packet - 1) as usize)
     }
 
-    /// Keeps the reply to a packet of this machine and this number, and returns how many there are.
-    /// It fails only where memory is refused.
+    /// Stores the reply to request `number` of `machine`, and returns the number of replies.
+    ///
+    /// # Errors
+    ///
+    /// Fails only if an allocation fails.
     pub fn keep(&mut self, machine: Name, number: u64, bytes: Bytes) -> Result<usize, AllocError>
         ensures { IfOk result (λ count. (self.new ≡ with_reply machine number bytes self.old)
             × (count ≡ length self.new.replies)) }
@@ -232,7 +240,7 @@ impl Floor {
     }
 }
 
-// The packet of what a feeder asks, if it asks anything.
+// Returns the packet of the feeder's pending request, if it has one.
 fn packet_of(alloc: Global, feeder: &Feeder) -> Result<Option<Packet>, AllocError>
     ensures { IfOk result (λ packet. packet
         ≡ option_map (packet_of feeder.now) (asked feeder.now)) }

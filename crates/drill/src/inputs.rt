@@ -1,4 +1,4 @@
-//! The headline over lists, with no premise left.
+//! The main theorem for a store in memory, without any premise.
 ghost use Rattle.std.specs.Prelude.{◌≡◌, ◌<◌, IfErr, IfOk, List, length, take};
 ghost use Rattle.server.specs.declared.connections.NextFault.TheVariants.{Device};
 ghost use Rattle.list_store.specs.Lists.{contents};
@@ -9,9 +9,13 @@ use list_store::ListStore;
 use server::{MemoryConnections, NextFault, serve_all};
 use std::alloc::Global;
 
-/// Serves so many of these inputs, in order, from an empty store of lists; each comes in pieces of
-/// at most so many bytes. Errors: `Device` where there are fewer inputs, and refused memory as
-/// `Memory`.
+/// Serves `turns` of the messages in `inputs`, in order, with a list store that is empty at first.
+/// Each message arrives in pieces of at most `most` bytes.
+///
+/// # Errors
+///
+/// - `Device`: there are fewer inputs than `turns`.
+/// - `Memory`: an allocation fails.
 pub fn serve_inputs(
     alloc: Global,
     inputs: Vec<Vec<u8>>,

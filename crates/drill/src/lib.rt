@@ -1,5 +1,5 @@
-//! A drill: a server that begins empty, and a shop floor of machines, packets and replies, moved by
-//! a script's lines.
+//! Runs a drill: a script moves machines, packets and replies of a simulated shop floor around a
+//! server whose store is empty at first.
 #![tactic(auto)]
 
 mod delivery;

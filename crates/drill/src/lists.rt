@@ -1,4 +1,4 @@
-//! A drill over lists.
+//! Runs a drill with a list store.
 ghost use Rattle.drill.specs.Drills.{DrillEnds};
 
 use crate::engine::drill_over;
@@ -7,7 +7,7 @@ use list_store::ListStore;
 use std::alloc::Global;
 use std::io::{Read, Write};
 
-/// Does the lines of a script over lists that begin empty, as `drill_over` does.
+/// Runs the lines of a script as `drill_over` does, with a list store that is empty at first.
 pub fn drill_over_lists<R: Read, W: Write>(
     alloc: Global,
     reader: &mut R,

@@ -1,4 +1,4 @@
-//! The lines of a drill that ask the server, and the messages that they stand for.
+//! Parses the lines of a drill that send a request to the server, and builds their messages.
 ghost use Rattle.std.specs.Prelude.{◌≡◌, ◌++◌, ◌≤◌, IfOk, IfSome, bytes_eq, codes, drop};
 ghost use Rattle.std.specs.Prelude.{length, map, option_map, position};
 ghost use Rattle.std.specs.List.{flat_map};
@@ -12,7 +12,7 @@ use std::alloc::{AllocError, Global};
 use store_data::Name;
 use text_io::{is_number, word_of};
 
-/// The message that a line asks for, and how many of the lines behind it are its file.
+/// Returns the message of a line, and how many of the lines after it are its batch file.
 pub(crate) fn asked(
     alloc: Global,
     line: &[u8],
@@ -44,27 +44,27 @@ pub(crate) fn asked(
     }
 }
 
-/// What a line asks of the server.
+/// A request to the server.
 #[derive(Clone, Copy)]
 enum Step<'a> {
-    /// A request in JSON, or what stands for one.
+    /// A POST with the given body, usually JSON.
     Office {
         number: &'a [u8],
         body: &'a [u8],
     },
-    /// A batch file for a product, in the lines behind it.
+    /// A batch file for a product. It is in the following lines.
     Import {
         number: &'a [u8],
         batch: &'a [u8],
         product: &'a [u8],
     },
-    /// An account.
+    /// A GET of an account.
     Get {
         target: &'a [u8],
     },
 }
 
-// What a line asks, if it has a form of the drill's.
+// Parses the request of a line.
 fn step_of(line: &[u8]) -> Option<Step<'_>>
     ensures { option_map shown result ≡ step_of line.now }
 {
@@ -72,7 +72,7 @@ fn step_of(line: &[u8]) -> Option<Step<'_>>
     step_by(word, words)
 }
 
-// By a line's first word, and what stands behind it.
+// Parses a request by the first word of its line and the rest.
 fn step_by<'a>(word: &[u8], words: &'a [u8]) -> Option<Step<'a>>
     ensures { option_map shown result ≡ step_by word.now words.now }
 {
@@ -87,7 +87,7 @@ fn step_by<'a>(word: &[u8], words: &'a [u8]) -> Option<Step<'a>>
     }
 }
 
-// A request under a number.
+// Parses a request number and a body.
 fn office_of(words: &[u8]) -> Option<Step<'_>>
     ensures { option_map shown result ≡ office_of words.now }
 {
@@ -95,7 +95,7 @@ fn office_of(words: &[u8]) -> Option<Step<'_>>
     Some(Step::Office { number, body })
 }
 
-// An import into a batch for a product.
+// Parses a request number, a batch and a product.
 fn import_of(words: &[u8]) -> Option<Step<'_>>
     ensures { option_map shown result ≡ import_of words.now }
 {
@@ -110,7 +110,7 @@ fn import_of(words: &[u8]) -> Option<Step<'_>>
     })
 }
 
-// A target is one word.
+// Parses a target, which is one word.
 fn target_of(words: &[u8]) -> Option<Step<'_>>
     ensures { option_map shown result ≡ target_of words.now }
 {
@@ -118,7 +118,7 @@ fn target_of(words: &[u8]) -> Option<Step<'_>>
     is_word.then_some(Step::Get { target: words })
 }
 
-// A client's number, and what stands behind it.
+// Splits a line after its request number.
 fn numbered(words: &[u8]) -> Option<(&[u8], &[u8])>
     ensures { option_map (λ p. (p.0.now, p.1.now)) result ≡ numbered words.now }
 {
@@ -126,14 +126,14 @@ fn numbered(words: &[u8]) -> Option<(&[u8], &[u8])>
     is_number(number).then_some((number, words))
 }
 
-// Where the first line `.` is.
+// Returns the position of the first line `.`.
 fn dot_in(lines: &[&[u8]]) -> Option<usize>
     ensures { result ≡ position (λ l. bytes_eq l.now (codes ".")) lines.now }
 {
     lines.iter().position(|line| *line == b".".as_slice())
 }
 
-// What follows the client in an import's target.
+// Returns the part of an import's target after the client.
 fn import_target(
     alloc: Global,
     number: &[u8],
@@ -150,7 +150,7 @@ fn import_target(
     Ok(target)
 }
 
-// The lines of a file, each with its LF.
+// Returns the lines of a file, each with LF at its end.
 fn file_of(alloc: Global, lines: &[&[u8]]) -> Result<Vec<u8>, AllocError>
     ensures { IfOk result (λ f. f.items ≡ flat_map (λ l. line l.now) lines.now) }
 {
@@ -162,7 +162,7 @@ fn file_of(alloc: Global, lines: &[&[u8]]) -> Result<Vec<u8>, AllocError>
     Ok(file)
 }
 
-// A request of the client `office`, by what follows the client in its target.
+// Returns a request of the client `office`. `target` is the part of the target after the client.
 fn post(alloc: Global, target: &[u8], body: &[u8]) -> Result<Vec<u8>, AllocError>
     ensures { IfOk result (λ m. m.items ≡ post target.now body.now) }
 {

@@ -1,28 +1,28 @@
-//! What machines used, sent and are to get.
+//! Boot numbers, packets and replies of a shop floor.
 use store_data::{Bytes, Name};
 
-/// A boot that a machine used.
+/// A boot number that a machine used.
 #[derive(Clone, Copy)]
 pub struct Boot {
     pub machine: Name,
-    /// 1 to 9,999,999,999.
+    /// The boot number, 1 to 9,999,999,999.
     pub boot: u64,
 }
 
-/// What a machine sent, under which number.
+/// A request that a machine sent, with its request number.
 #[derive(Drop)]
 pub struct Packet {
     pub machine: Name,
     pub number: u64,
-    /// The whole message, head and body.
+    /// The complete message with head and body.
     pub message: Bytes,
 }
 
-/// A reply, the machine that sent its packet, and that packet's number.
+/// A response, the machine that sent its request, and the request number.
 #[derive(Drop)]
 pub struct Returned {
     pub machine: Name,
     pub number: u64,
-    /// The whole reply, status line to body.
+    /// The complete response, from its status line to its body.
     pub bytes: Bytes,
 }

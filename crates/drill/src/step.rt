@@ -1,4 +1,4 @@
-//! What one line of a drill does, and prints.
+//! Runs one line of a drill.
 ghost use Rattle.std.specs.Prelude.{◌≡◌, ◌++◌, ◌≤◌, List, ℕ, IfOk, IfSome, OnOk, Some, length, map};
 ghost use Rattle.drill.specs.Floors.{Floor as FloorState};
 ghost use Rattle.drill.specs.Turns.{IsTurn};
@@ -19,7 +19,8 @@ use std::alloc::{AllocError, Global};
 use store_data::{Bytes, Name};
 use wire::reply_parts;
 
-/// What a line printed, how many lines behind it were its file, and whether the server stops now.
+/// The effect of a line: how many of the following lines were its file, its output, and whether the
+/// server crashes in it.
 #[derive(Drop)]
 pub(crate) struct Did {
     pub(crate) taken: usize,
@@ -27,7 +28,8 @@ pub(crate) struct Did {
     pub(crate) stops: bool,
 }
 
-/// Does what a line says. `None` where it has no form of the drill's, or names what isn't there.
+/// Runs one line. Returns `None` if the line is malformed, or names a machine, packet or reply that
+/// doesn't exist.
 pub(crate) fn step<S: JobStore>(
     alloc: Global,
     floor: &mut Floor,
@@ -45,7 +47,7 @@ pub(crate) fn step<S: JobStore>(
     }
 }
 
-// A line that moves a machine or a reply.
+// Runs a line that moves a machine or a reply.
 fn move_by(alloc: Global, floor: &mut Floor, turn: Turn) -> Result<Option<Did>, AllocError>
     requires { IsTurn turn }
     ensures moves { IfOk result (λ did. Moves floor.old turn (did_of floor.new did)) }
@@ -61,7 +63,7 @@ fn move_by(alloc: Global, floor: &mut Floor, turn: Turn) -> Result<Option<Did>, 
     }))
 }
 
-// A line that reaches the server.
+// Runs a line that reaches the server.
 fn reach<S: JobStore>(
     alloc: Global,
     floor: &mut Floor,
@@ -79,7 +81,7 @@ fn reach<S: JobStore>(
     }
 }
 
-// Sends what a line asks of the server.
+// Sends the request of a line to the server.
 fn ask<S: JobStore>(
     alloc: Global,
     store: &mut S,
@@ -102,7 +104,7 @@ fn ask<S: JobStore>(
     }))
 }
 
-// A packet arrives.
+// Delivers a packet to the server.
 fn deliver<S: JobStore>(
     alloc: Global,
     floor: &mut Floor,
@@ -129,7 +131,7 @@ fn deliver<S: JobStore>(
     }
 }
 
-// A packet is served, and its reply kept.
+// Serves a packet and stores its reply.
 fn answer<S: JobStore>(
     alloc: Global,
     floor: &mut Floor,
@@ -157,7 +159,7 @@ fn answer<S: JobStore>(
     })
 }
 
-// The server stops.
+// Returns the effect of a crash of the server.
 fn stop(alloc: Global) -> Result<Did, AllocError>
     ensures { IfOk result (λ did. (fl : FloorState) → did_view fl did ≡ stopped fl) }
 {
@@ -168,7 +170,7 @@ fn stop(alloc: Global) -> Result<Did, AllocError>
     })
 }
 
-// Serves a message, and brings its whole reply.
+// Serves a message and returns its complete response.
 fn serve<S: JobStore>(alloc: Global, store: &mut S, message: Vec<u8>) -> Result<Vec<u8>, AllocError>
     ensures { IfOk result (λ reply. Answers S.state store.old store.new message.items
         reply.items) }
@@ -176,14 +178,14 @@ fn serve<S: JobStore>(alloc: Global, store: &mut S, message: Vec<u8>) -> Result<
     let mut incoming = MemoryReader::new(message, usize::MAX);
     let mut reply = Vec::new(alloc);
     let served = serve_one(alloc, store, &mut incoming, &mut reply);
-    // A message here comes whole, and memory takes a reply unless it is refused.
+    // The message is complete, and writing to memory fails only if an allocation fails.
     if served.end != End::Answered {
         return Err(AllocError);
     }
     Ok(reply)
 }
 
-// How a reply's line begins.
+// Returns the start of a response's line.
 fn numbered(alloc: Global, count: usize) -> Result<Vec<u8>, AllocError>
     ensures { IfOk result (λ t. t.items ≡ reply_number count) }
 {
@@ -194,7 +196,7 @@ fn numbered(alloc: Global, count: usize) -> Result<Vec<u8>, AllocError>
     Ok(text)
 }
 
-// A text with a reply's status, a space and its body behind it, which ends the line.
+// Adds the status of a response, a space and its body to `text`, and ends the line.
 fn with_reply(mut text: Vec<u8>, reply: &[u8]) -> Result<Vec<u8>, AllocError>
     ensures { IfOk result (λ t. t.items ≡ text.items ++ reply_line reply.now) }
 {
@@ -202,7 +204,7 @@ fn with_reply(mut text: Vec<u8>, reply: &[u8]) -> Result<Vec<u8>, AllocError>
     Ok(text)
 }
 
-// Adds the line that is printed for a reply.
+// Adds the line that is printed for a response.
 fn put_line(text: &mut Vec<u8>, reply: &[u8]) -> Result<(), AllocError>
     ensures { OnOk result (text.new.items ≡ text.old.items ++ reply_line reply.now) }
 {

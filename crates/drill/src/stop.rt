@@ -1,4 +1,4 @@
-//! Why a drill stops.
+//! The reasons why a drill stops.
 ghost use Rattle.std.specs.Prelude.{◌≡◌};
 
 use job_facts::StoreFault;
@@ -7,18 +7,18 @@ use std::error::Error;
 use std::fmt;
 use text_io::{ReadFault, WriteFailed};
 
-/// Why a drill stopped.
+/// A reason why a drill stopped.
 #[derive(Clone, Copy, Debug, PartialEq, Eq)]
 pub enum DrillStop {
-    /// A line has no form of the drill's; the first is 1.
+    /// This line, counted from 1, is malformed or names something that doesn't exist.
     BadLine(u64),
-    /// The store did not open over again.
+    /// The store couldn't be opened again.
     Storage,
     /// A read failed.
     ReadFailed,
-    /// A write failed, or took nothing.
+    /// A write failed or accepted no bytes.
     WriteFailed,
-    /// Memory was refused.
+    /// An allocation failed.
     Memory,
 }
 

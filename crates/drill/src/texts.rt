@@ -1,4 +1,4 @@
-//! The lines that are printed of a shop floor.
+//! Builds the lines that are printed about a shop floor.
 ghost use Rattle.std.specs.Prelude.{◌≡◌, IfOk};
 ghost use Rattle.text_io.specs.Written.{line};
 ghost use Rattle.feeder.specs.Table.{Apply, Eject};
@@ -9,7 +9,11 @@ use feeder::Act;
 use itoa::Buffer;
 use std::alloc::{AllocError, Global};
 
-/// A line of these bytes. It fails only where memory is refused.
+/// Returns `text` with LF at its end.
+///
+/// # Errors
+///
+/// Fails only if an allocation fails.
 pub fn text_line(alloc: Global, text: &[u8]) -> Result<Vec<u8>, AllocError>
     ensures { IfOk result (λ t. t.items ≡ line text.now) }
 {
@@ -18,7 +22,7 @@ pub fn text_line(alloc: Global, text: &[u8]) -> Result<Vec<u8>, AllocError>
     Ok(line)
 }
 
-/// The line of a packet that was sent, the k-th.
+/// Returns the line of packet number `count`.
 pub(crate) fn packet_line(alloc: Global, count: usize) -> Result<Vec<u8>, AllocError>
     ensures { IfOk result (λ t. t.items ≡ packet_text count) }
 {
@@ -29,7 +33,7 @@ pub(crate) fn packet_line(alloc: Global, count: usize) -> Result<Vec<u8>, AllocE
     Ok(line)
 }
 
-/// The line of what a machine is to do.
+/// Returns the line of a machine's next action.
 pub(crate) fn act_line(alloc: Global, act: Act<'_>) -> Result<Vec<u8>, AllocError>
     ensures { IfOk result (λ t. t.items ≡ act_text (act_of act.entry)) }
 {

@@ -1,4 +1,4 @@
-//! The lines of a drill that move a machine or a reply.
+//! Parses the lines of a drill that move a machine or a reply.
 ghost use Rattle.std.specs.Prelude.{◌≡◌, ◌≤◌, IfSome};
 ghost use Rattle.drill.specs.Turns.{IsTurn, card_of, count_of, insert_of, machine_of};
 ghost use Rattle.drill.specs.Turns.{power_of, turn_by, turn_of};
@@ -6,46 +6,46 @@ ghost use Rattle.drill.specs.Turns.{power_of, turn_by, turn_of};
 use store_data::Name;
 use text_io::{number_within, status_word, word_of};
 
-/// The greatest number of 18 digits: of a serial or a reply.
+/// The largest serial number, and the largest number of a packet or reply: 18 digits.
 const MOST: u64 = 999_999_999_999_999_999;
 
-/// The greatest boot.
+/// The largest boot number.
 const MOST_BOOT: u64 = 9_999_999_999;
 
-/// What a line does on the shop floor. The server has no part in it.
+/// An event on the shop floor in which the server has no part.
 #[derive(Clone, Copy)]
 pub enum Turn {
-    /// A machine loses what it knew, and starts.
+    /// A machine loses its state and starts.
     Power {
         machine: Name,
-        /// 1 to 9,999,999,999.
+        /// The boot number, 1 to 9,999,999,999.
         boot: u64,
     },
-    /// A card is put in.
+    /// A card is inserted.
     Insert {
         machine: Name,
         batch: Name,
-        /// Its serial, of at most 18 digits.
+        /// The serial number of the card, of at most 18 digits.
         blank: u64,
     },
-    /// What a machine asks becomes a packet.
+    /// A machine sends its pending request as a packet.
     Send {
         machine: Name,
     },
-    /// A card gives a status word.
+    /// The card in a machine returns a status word.
     Card {
         machine: Name,
         sw: u16,
     },
-    /// A reply reaches its machine. They count from 1.
+    /// A reply reaches the machine that sent the request. Replies are numbered from 1.
     Back {
         reply: u64,
     },
 }
 
-/// What a line does, if it has a form of these: `power M BOOT`, `insert M BATCH SERIAL`, `send M`,
-/// `card M SW` and `back J`, with one space between words and numbers without leading zeros (this
-/// project's profile).
+/// Parses `power M BOOT`, `insert M BATCH SERIAL`, `send M`, `card M SW` or `back J`, with single
+/// spaces between the words and without leading zeros (this project's profile). Returns `None` for
+/// any other line.
 pub fn turn_of(line: &[u8]) -> Option<Turn>
     ensures value { result ≡ turn_of line.now }
     ensures ranged { IfSome result IsTurn }
@@ -54,7 +54,7 @@ pub fn turn_of(line: &[u8]) -> Option<Turn>
     turn_by(word, words)
 }
 
-// By a line's first word, and what stands behind it.
+// Parses an event by the first word of its line and the rest.
 fn turn_by(word: &[u8], words: &[u8]) -> Option<Turn>
     ensures value { result ≡ turn_by word.now words.now }
     ensures ranged { IfSome result IsTurn }
@@ -112,7 +112,7 @@ fn card_of(words: &[u8]) -> Option<Turn>
     Some(Turn::Card { machine, sw })
 }
 
-/// Which packet or reply a word names. They count from 1.
+/// Parses the number of a packet or reply, from 1.
 pub fn count_of(text: &[u8]) -> Option<u64>
     ensures value { result ≡ count_of text.now }
     ensures least { IfSome result (λ k. 1 ≤ k) }
@@ -120,7 +120,7 @@ pub fn count_of(text: &[u8]) -> Option<u64>
     number_within(text, 1, MOST)
 }
 
-// A machine's name, which isn't that of the office.
+// Parses the name of a machine, which must not be `office`.
 fn machine_of(text: &[u8]) -> Option<Name>
     ensures { result ≡ machine_of text.now }
 {

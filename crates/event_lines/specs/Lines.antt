@@ -4,22 +4,22 @@ use Rattle.std.specs.List.{flat_map}
 use Rattle.std.specs.Fmt.{decimal}
 use Rattle.hex.specs.Hex.{encode_upper}
 
--- a space, a key, an equals sign, and a value as it is
+-- a space, the key, an equals sign, and the value without any escape
 abbrev pub pair : List ℕ → List ℕ → List ℕ
 pair key value = 32 ∷ key ++ 61 ∷ value
 
 abbrev pub number_pair : List ℕ → ℕ → List ℕ
 number_pair key n = pair key (decimal n)
 
--- a printable character of ASCII, and no quote or backslash
+-- `byte` is a printable ASCII character other than the quote and the backslash
 abbrev pub is_plain : ℕ → Bool
 is_plain byte = nat_le 32 byte && nat_le byte 126 && not (byte == 34) && not (byte == 92)
 
--- a byte as it is, or `\x` and its two hexadecimal digits
+-- the byte itself if it is plain, otherwise `\x` and its two hexadecimal digits
 abbrev pub escaped : ℕ → List ℕ
 escaped byte = if is_plain byte then byte ∷ [] else codes "\\x" ++ encode_upper (byte ∷ [])
 
--- bytes that someone else chose, between quotes
+-- the escaped form of `bytes`, in quotes: for bytes that a client chose
 abbrev pub quoted : List ℕ → List ℕ
 quoted bytes = 34 ∷ flat_map escaped bytes ++ 34 ∷ []
 

@@ -1,4 +1,4 @@
--- How the code's values are seen.
+-- The text of an event line.
 use Rattle.std.specs.Prelude.{ℕ, List}
 use Rattle.event_lines.specs.declared.line.EventLine.{EventLine}
 

@@ -1,26 +1,29 @@
-//! Which event lines are written.
+//! The level of event lines.
 ghost use Rattle.std.specs.Prelude.{◌≡◌, option_map};
 ghost use Rattle.event_lines.specs.Levels.{level_of};
 
-/// Which event lines are written.
+/// The level of event lines, by the value of `PERSOD_LOG`.
 #[derive(Clone, Copy, Debug, PartialEq, Eq)]
 pub enum Level {
-    /// None.
+    /// No lines are written.
     Off,
-    /// All but those of connections whose request was accepted.
+    /// All lines are written, except those of connections whose request was accepted.
     Usual,
-    /// All.
+    /// All lines are written.
     All,
 }
 
-/// The level that the environment's variable asks for by this value, if it is set: none where it is
-/// empty, all by `all`, and else the usual ones.
+/// Returns the level for `value`, the value of `PERSOD_LOG`, or `None` if it isn't set. An empty
+/// value, `0` and `off` turn the lines off, `all` turns all of them on, and any other value the
+/// usual ones.
 pub fn level_of(value: Option<&[u8]>) -> Level
     ensures { result ≡ level_of (option_map (λ v. v.now) value.entry) }
 {
     match value {
         None => Level::Off,
         Some(b"") => Level::Off,
+        Some(b"0") => Level::Off,
+        Some(b"off") => Level::Off,
         Some(b"all") => Level::All,
         Some(_) => Level::Usual,
     }

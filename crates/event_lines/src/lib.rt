@@ -1,5 +1,4 @@
-//! Event lines, by which the program tells people what it does: a word, and pairs of a key and a
-//! value. Which of them are written, and where, stands here too.
+//! Builds and writes event lines: a word, then keys with values, for people who watch the program.
 #![tactic(auto)]
 
 mod level;

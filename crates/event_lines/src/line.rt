@@ -1,4 +1,4 @@
-//! An event line: a word, and pairs of a key and a value.
+//! Builds an event line.
 ghost use Rattle.std.specs.Prelude.{◌≡◌, ◌∷◌, ◌++◌, [], IfOk, OnOk};
 ghost use Rattle.std.specs.List.{flat_map};
 ghost use Rattle.event_lines.specs.Lines.{escaped, is_plain, number_pair, pair, quoted_pair};
@@ -7,7 +7,7 @@ ghost use Rattle.event_lines.specs.Views.{text_of};
 use itoa::Buffer;
 use std::alloc::{AllocError, Global};
 
-/// An event line, without its end.
+/// An event line without the LF at its end.
 #[derive(Drop)]
 pub struct EventLine {
     alloc: Global,
@@ -15,7 +15,11 @@ pub struct EventLine {
 }
 
 impl EventLine {
-    /// The line of an event without pairs.
+    /// Creates a line that consists of the word `event`.
+    ///
+    /// # Errors
+    ///
+    /// Fails only if an allocation fails, as all functions here.
     pub fn new(alloc: Global, event: &str) -> Result<EventLine, AllocError>
         ensures { IfOk result (λ line. text_of line ≡ event.now) }
     {
@@ -23,7 +27,7 @@ impl EventLine {
         Ok(EventLine { alloc, text })
     }
 
-    /// The line with a number more.
+    /// Adds ` key=number`, in decimal.
     pub fn number(self, key: &str, number: u64) -> Result<EventLine, AllocError>
         ensures { IfOk result (λ line. text_of line ≡ text_of self ++ number_pair key.now number) }
     {
@@ -31,7 +35,7 @@ impl EventLine {
         self.word(key, text.format(number))
     }
 
-    /// The line with a word more, which is written as it is.
+    /// Adds ` key=word`. `word` isn't escaped, so it must come from the program itself.
     pub fn word(self, key: &str, word: &str) -> Result<EventLine, AllocError>
         ensures { IfOk result (λ line. text_of line ≡ text_of self ++ pair key.now word.now) }
     {
@@ -41,8 +45,8 @@ impl EventLine {
         Ok(EventLine { alloc, text })
     }
 
-    /// The line with bytes more, between quotes. What is no printable character of ASCII, and each
-    /// quote and backslash, is written as `\x` and two digits.
+    /// Adds ` key="bytes"`. Each quote, each backslash and each byte that isn't a printable ASCII
+    /// character is written as `\x` and two hexadecimal digits.
     pub fn quoted(self, key: &str, bytes: &[u8]) -> Result<EventLine, AllocError>
         ensures { IfOk result
             (λ line. text_of line ≡ text_of self ++ quoted_pair key.now bytes.now) }
@@ -55,7 +59,7 @@ impl EventLine {
         Ok(EventLine { alloc, text })
     }
 
-    /// The line's bytes, ended by LF.
+    /// Returns the bytes of the line, with LF at the end.
     pub fn into_bytes(self) -> Result<Vec<u8>, AllocError>
         ensures { IfOk result (λ bytes. bytes.items ≡ text_of self ++ 10 ∷ []) }
     {
@@ -75,7 +79,7 @@ fn push_key(text: &mut Vec<u8>, key: &str) -> Result<(), AllocError>
     Ok(())
 }
 
-// Adds bytes as they stand between quotes.
+// Adds the escaped form of `bytes`.
 fn push_all(alloc: Global, text: &mut Vec<u8>, bytes: &[u8]) -> Result<(), AllocError>
     ensures { OnOk result (text.new.items ≡ text.old.items ++ flat_map escaped bytes.now) }
 {
@@ -85,7 +89,7 @@ fn push_all(alloc: Global, text: &mut Vec<u8>, bytes: &[u8]) -> Result<(), Alloc
     Ok(())
 }
 
-// Adds a byte as it stands between quotes.
+// Adds the escaped form of `byte`.
 fn push_escaped(alloc: Global, text: &mut Vec<u8>, byte: u8) -> Result<(), AllocError>
     ensures { OnOk result (text.new.items ≡ text.old.items ++ escaped byte) }
 {
@@ -99,7 +103,7 @@ fn push_escaped(alloc: Global, text: &mut Vec<u8>, byte: u8) -> Result<(), Alloc
     Ok(())
 }
 
-// Whether a byte stands between quotes as it is.
+// Returns `true` if `byte` needs no escape.
 fn is_plain(byte: u8) -> bool
     ensures { result ≡ is_plain byte }
 {

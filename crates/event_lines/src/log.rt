@@ -1,4 +1,4 @@
-//! Where event lines are written.
+//! Writes event lines to a writer.
 ghost use Rattle.std.specs.Prelude.{◌≡◌, ◌≢◌, ◌↔◌, ℕ, List, [], ◌∷◌, ◌++◌, IfOk, IsTrue};
 ghost use Rattle.text_io.specs.Written.{AppendsBeginning};
 ghost use Rattle.event_lines.specs.Notes.{NotesAll};
@@ -10,7 +10,7 @@ use std::alloc::AllocError;
 use std::io::Write;
 use text_io::write_text;
 
-/// A writer of event lines, and which of them it is given.
+/// A writer of event lines with its level.
 #[derive(Drop)]
 pub struct EventLog<W: Write + Drop> {
     pub level: Level,
@@ -18,7 +18,7 @@ pub struct EventLog<W: Write + Drop> {
 }
 
 impl<W: Write + Drop> EventLog<W> {
-    /// A log of this level.
+    /// Creates a log that writes the lines of `level` to `writer`.
     pub fn new(level: Level, writer: W) -> EventLog<W>
         ensures level { result.level ≡ level }
         ensures writer { result.writer ≡ writer }
@@ -26,15 +26,16 @@ impl<W: Write + Drop> EventLog<W> {
         EventLog { level, writer }
     }
 
-    /// Whether any line is written.
+    /// Returns `true` if any lines are written.
     pub fn is_on(&self) -> bool
         ensures { IsTrue result ↔ (self.now.level ≢ Level.Off) }
     {
         self.level != Level::Off
     }
 
-    /// Writes a line, if any are written. Where a write fails or memory is refused a beginning of
-    /// it is written, and nothing is reported of that: a line that can't be written stops nothing.
+    /// Writes `line`, unless the level is `Off`. If a write or an allocation fails, only a prefix
+    /// of the line is written, and no error is reported: event lines never stop the program. Only
+    /// tests show that the whole line is written if nothing fails.
     pub fn note(&mut self, line: Result<EventLine, AllocError>)
         ensures level { self.new.level ≡ self.old.level }
         ensures noted { (text : List ℕ) → IfOk line (λ made. text_of made ≡ text)
@@ -50,7 +51,7 @@ impl<W: Write + Drop> EventLog<W> {
     }
 }
 
-// Writes a line, or a beginning of it.
+// Writes `line`, or a prefix of it if a write or an allocation fails.
 fn write_line<W: Write>(writer: &mut W, line: EventLine)
     ensures { AppendsBeginning (W.contents writer.old) (W.contents writer.new)
         (text_of line ++ 10 ∷ []) }

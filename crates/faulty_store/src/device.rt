@@ -1,4 +1,4 @@
-//! A device, and the fault that is planned for it.
+//! A faulty device, and the fault that is planned for it.
 ghost use Rattle.std.specs.Prelude.{◌≡◌, IfErr, OnErr, OnOk, Some, false, true};
 ghost use Rattle.job_facts.specs.declared.store.StoreFault.TheVariants.{Device as DeviceFault};
 ghost use Rattle.job_facts.specs.declared.store.StoreFault.TheVariants.{Full as FullFault};
@@ -8,39 +8,47 @@ ghost use Rattle.faulty_store.specs.Faulty.{ends, left, struck};
 
 use job_facts::StoreFault;
 
-/// What a device does wrong.
+/// A fault of the device.
 #[derive(Clone, Copy)]
 pub enum Fault {
-    /// It fails, and the store shuts.
+    /// A failure in a step. It shuts the store.
     Failed,
-    /// It fails when a write has reached it, and the store shuts.
+    /// A failure after a write has reached the device. It shuts the store.
     FailedAfterWrite,
-    /// It is full; the store stays open.
+    /// A full device. The store isn't shut.
     Full,
-    /// It has lost all that was written, and says nothing of it.
+    /// The loss of all data without an error.
     Lies,
 }
 
-/// A fault that strikes once, after so many steps.
+/// A planned fault, which strikes once.
 #[derive(Clone, Copy)]
 pub struct Plan {
+    /// The number of steps before the fault is due.
     pub turns: u64,
+    /// The fault.
     pub fault: Fault,
 }
 
-/// What is planned, how often a fault was reported or a lie, and whether a fault has shut the
-/// store.
+/// A faulty device. At the maximum of `u64` a count no longer increases.
 #[derive(Clone, Copy)]
 pub struct Device {
+    /// The fault that is planned next, if any.
     pub plan: Option<Plan>,
+    /// The number of `Device` faults that were returned.
     pub failed: u64,
+    /// The number of `Full` faults that were returned.
     pub full: u64,
+    /// The number of times that the device lost all data without an error.
     pub lies: u64,
+    /// `true` if a fault has shut the store. Every step then fails.
     pub is_shut: bool,
 }
 
 impl Device {
-    /// The fault that strikes in this step, if one does. One after a write waits for a write.
+    /// Takes one step, and returns the fault that strikes in it, if any. `FailedAfterWrite` isn't
+    /// returned, because it waits for the end of a write. A device that is shut returns `Failed` in
+    /// every step.
     pub(crate) fn strike(&mut self) -> Option<Fault>
         ensures plan { self.new ≡ record self.old { plan = self.new.plan } }
         ensures shut { self.old.is_shut ≡ true → result ≡ Some Failed }
@@ -73,7 +81,7 @@ impl Device {
         }
     }
 
-    /// It fails, and the store shuts.
+    /// Counts a failure of the device, shuts the store, and returns `Device`.
     pub(crate) fn fail(&mut self) -> StoreFault
         ensures fault { result ≡ DeviceFault }
         ensures counted { self.new
@@ -84,7 +92,7 @@ impl Device {
         StoreFault::Device
     }
 
-    /// It is full.
+    /// Counts a full device and returns `Full`.
     pub(crate) fn refuse(&mut self) -> StoreFault
         ensures fault { result ≡ FullFault }
         ensures counted { self.new ≡ record self.old { full = one_more self.old.full } }
@@ -93,7 +101,8 @@ impl Device {
         StoreFault::Full
     }
 
-    /// The end of a write that has reached it.
+    /// Ends a write that has reached the device. Returns `Device` and shuts the store if the
+    /// planned fault strikes now.
     pub(crate) fn end_write(&mut self) -> Result<(), StoreFault>
         ensures ok { OnOk result ((self.new ≡ self.old) × (ends self.old.plan ≡ false)) }
         ensures err { IfErr result (λ fault. (fault ≡ DeviceFault) × (ends self.old.plan ≡ true)) }

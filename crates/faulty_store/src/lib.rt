@@ -1,5 +1,5 @@
-//! A store of lists behind a device that fails, is full, lies and shuts: tests run over it what a
-//! store over a disk will meet.
+//! A store in memory with a faulty device, for tests. The device can fail, be full, lose all data
+//! without an error, or be shut, like the disk of a store over SQLite.
 #![tactic(auto)]
 
 mod device;

@@ -1,4 +1,4 @@
-//! The store of lists behind a device, whose faults each call may meet.
+//! A store of lists with a faulty device.
 use crate::device::{Device, Fault, Plan};
 use job_facts::{
     BatchRow, BatchSize, BatchTotals, BlankTotals, Change, FaultCounts, JobStore, KeptReply, Lot,
@@ -8,7 +8,8 @@ use list_store::ListStore;
 use std::alloc::Global;
 use store_data::{Name, Product};
 
-/// Lists behind a device. Each call takes a step of the device first.
+/// A store of lists with a faulty device. Each call takes a step of the device before it uses the
+/// lists. Only tests show this.
 #[derive(Drop)]
 pub struct FaultyStore {
     alloc: Global,
@@ -24,7 +25,7 @@ impl FaultyStore {
     ghost use Rattle.list_store.specs.Lists.{contents};
     ghost use Rattle.faulty_store.specs.Faulty.{IsAnswered, state, struck};
 
-    /// An empty store, and what is planned for its device. It takes no memory.
+    /// Creates an empty store whose device has the planned fault `plan`. Allocates nothing.
     pub fn new(alloc: Global, plan: Option<Plan>) -> FaultyStore
         ensures holds { (state result).holds no_contents }
         ensures device { result.device ≡ record {
@@ -48,8 +49,8 @@ impl FaultyStore {
         }
     }
 
-    /// The store that is opened on what a crash at this moment leaves, and what is planned next for
-    /// its device, which keeps its counts.
+    /// Simulates a crash at this moment, and opens the store again. The device keeps its counts,
+    /// and its next planned fault is `plan`. Allocates nothing.
     pub fn reopen(self, plan: Option<Plan>) -> FaultyStore
         ensures opened { (c : Contents) → AreSound c → (state self).may_leave (Some c)
             → OpensWith (state result) c }
@@ -63,14 +64,15 @@ impl FaultyStore {
         FaultyStore { device, ..self }
     }
 
-    /// What became of its device.
+    /// Returns a copy of the device, with its counts. Allocates nothing.
     pub fn device(&self) -> Device
         ensures { result ≡ self.now.device }
     {
         self.device
     }
 
-    // A step of the device.
+    // Takes a step of the device, and returns its fault, if it reports one. If the device loses all
+    // data, the lists are empty afterwards and the call continues.
     fn turn(&mut self) -> Result<(), StoreFault>
         ensures stays { Stays (state self.old) (state self.new) }
         ensures faults { CountsFaults (state self.old) (state self.new) result }
@@ -254,7 +256,7 @@ impl JobStore for FaultyStore {
     }
 }
 
-// To close it takes a step of the device, as any call does.
+// Closing the store takes a step of the device, like any other call.
 impl ServerStore for FaultyStore {
     ghost use Rattle.std.specs.Prelude.{◌≡◌, false};
     ghost use Rattle.faulty_store.specs.Faulty.{IsAnswered, struck};

@@ -1,4 +1,4 @@
--- An arrival at the server, and the machines stay as they were.
+-- An arrival at the server keeps `Fine` true and leaves the machines unchanged.
 use Rattle.std.proofs.Common.{◌≡◌, ◌≤◌, ◌<◌, ◌^◌, ◌+◌, ◌==◌, ◌&&◌, ℕ, Bool, true, false, cond, List, [], ◌∷◌, ◌++◌, length, map, take, All, Option, Some, refl, sym, ap, ◌∙◌, subst, inl, inr, arith}
 use Rattle.std.specs.Prelude.{bytes_eq, nat_le, slice_get, if◌then◌else◌}
 use Rattle.std.proofs.lemmas.Bool.{cond_both, cond-true}
@@ -39,7 +39,7 @@ use Rattle.feeder.specs.ShopFloor.{IsRangedCall, IsCountedGood, sequence_of}
 use Rattle.feeder.proofs.Fine.{Cards, Machines, Fine, Fits, Fresh, HasCard, HasDone, Holds, IsDecidedFine, IsFineCard, IsFineEntry, IsFinePacket, IsKeptFine, IsAnswered, OpensFresh, got}
 use Rattle.feeder.proofs.Going.{all_at, name_same}
 
--- ---- later facts
+-- ---- properties that later facts keep
 
 sequence_later : (f g : Facts) (s : ℕ) (x : Session) (y : IsLaterSession f g s x) → sequence_of g y.now ≡ sequence_of f x
 sequence_later f g s x y =
@@ -103,9 +103,10 @@ answered_later f g marks now cards machines packets client number http_reply lat
   fresh = is.fresh;
 }
 
--- ---- contents in place of others
+-- ---- new contents
 
--- what is owed of contents that come next, and of what was answered
+-- the new contents `d` and the decided arrival `g` meet the conditions under which `Fine` stays
+-- true
 pub record Leads (names : List (List ℕ)) (w : World) (d : Contents) (g : Answered) : Type 0 where
   pub sound : IsSound d.facts
   pub above : AreAbove d
@@ -161,18 +162,20 @@ leads_fine names w d g leads fine =
 
 -- ---- the three cases of an arrival
 
--- an arrival of the list: a packet's, or an office's, which is of no machine
+-- `a` is an arrival in the list of events: of a packet, or from an office, whose name isn't in
+-- `names`
 pub record Comes (names : List (List ℕ)) (w : World) (a : Arrived) : Type 0 where
   pub name : IsName a.client
   pub ranged : IsRangedCall a.request
   pub done : HasDone w.contents.facts w.cards a.request
   pub packet : is_name_of names a.client ≡ true → (p : Packet) × (i : ℕ) × (slice_get w.packets i ≡ Some p) × (arrival_of p ≡ a)
 
--- numbers of two places are two
+-- Equal request numbers have the same boot number and the same place.
 pub number_apart : (b p c q : ℕ) → p ≤ 9999999 → q ≤ 9999999 → number_at b p ≡ number_at c q → (b ≡ c) × (p ≡ q)
 number_apart b p c q few less same = (omega (arith, same), omega (arith, same))
 
--- a reply that says nothing fits, and takes nothing for granted
+-- The reply `NumberReleased` satisfies `Fits` and `Fresh` for every request, because both require
+-- something only of other replies.
 gone_fits : (f : Facts) (marks : List Mark) (m : List ℕ) (call : Call) (mark : ℕ) → Fits f marks m call (reply.NumberReleased mark)
 gone_fits f marks m (Job (request.Open b blank)) mark = tt
 gone_fits f marks m (Release upto) mark = λ ok. absurd (omega (arith, ok))
@@ -182,7 +185,7 @@ gone_fresh : (cards : Cards) (call : Call) (mark : ℕ) → Fresh cards call (re
 gone_fresh cards (Job (request.Open b blank)) mark = tt
 gone_fresh cards _ mark = tt
 
--- ---- what the first of a number does
+-- ---- the first arrival with a request number
 
 first_sound : (f : Facts) (client : List ℕ) (call : Call) → IsSound f → IsName client → IsRangedCall call → IsSound (facts_by f client call)
 first_sound f client (Job r) sound name ranged = step_sound f client r sound name ranged
@@ -211,7 +214,8 @@ first_fresh f marks cards client number (Job (request.Open b blank)) sound fine 
     opens_fresh f cards blank o.1 (fine blank) (opens_free f o.0 client b blank o.1 (step_may f client (request.Open b blank)) (step_says f client (request.Open b blank) sound))
 first_fresh f marks cards client number _ sound fine = tt
 
--- after an accepted release its client's mark has reached it
+-- If the release up to `upto` is accepted, the release mark of `client` is at least `upto`
+-- afterwards.
 pub release_fits : (marks : List Mark) (client : List ℕ) (number upto : ℕ) → status_of (if nat_le number upto then reply.Refused ReleaseTooFar else reply.Released (mark_by marks client upto)) ≡ 200 → upto ≤ mark_of (marks_by marks client number (Release upto)) client
 release_fits marks client number upto = at (nat_le number upto)
   where
@@ -230,14 +234,15 @@ first_fits f marks client number (Job (request.Answer s k sw)) sound name ranged
 first_fits f marks client number (Release upto) sound name ranged = release_fits marks client number upto
 first_fits f marks client number _ sound name ranged = tt
 
--- the first of a number is answered by a reply in its ranges
+-- The reply to the first arrival with a request number satisfies `IsReply`.
 first_reply : (f : Facts) (marks : List Mark) (client : List ℕ) (number : ℕ) (call : Call) → IsSound f → IsRangedCall call → ((n : List ℕ) → mark_of marks n < 10 ^ 18)
     → IsReply (reply_by f marks client number call)
 first_reply f marks client number (Job r) sound ranged low = reply_ranged r (step f client r).1 (step_may f client r) (step_in_range f client r sound ranged)
 first_reply f marks client number (Release upto) sound ranged low =
     cond_both {A = Reply} (nat_le number upto) (reply.Refused ReleaseTooFar) (reply.Released (mark_by marks client upto)) IsReply (λ far. tt) (λ near. omega (arith, low client, ranged.1))
 
--- what is kept under the number of a machine's packet is of that packet's call
+-- An entry under the number of packet `p` of a machine contains the kept reply to the request of
+-- `p`.
 pub entry_for : (names : List (List ℕ)) (w : World) → Fine names w → (p : Packet) (i : ℕ) (e : Entry) → is_name_of names p.machine ≡ true → slice_get w.packets i ≡ Some p
     → entry_of w.contents.kept p.machine (number_at p.boot p.place) ≡ Some e
     → (one : IsFineEntry w.contents.facts w.contents.marks w.cards w.machines w.packets e) × (one.http_reply.packet.call ≡ p.call)
@@ -289,7 +294,8 @@ module _ (names : List (List ℕ)) (w : World) (a : Arrived) (comes : Comes name
         call = ap (λ (b : Arrived). b.request) p.3;
       })
 
-  -- the entry of a machine's number is that of its packet
+  -- If a reply is kept under the number of `a`, the contents don't change. The kept reply of a
+  -- machine belongs to the packet of `a`.
   again_leads : (e : Entry) → entry_of c.kept a.client a.number ≡ Some e → Leads names w c (record { arrival = a; http_reply = http_reply_by a.ask e })
   again_leads e some = same_leads (http_reply_by a.ask e) (λ listed.
       let p = comes.packet listed in

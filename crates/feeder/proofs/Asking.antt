@@ -1,4 +1,4 @@
--- What is asked can be sent.
+-- The pending request of a feeder can be sent.
 use Rattle.std.proofs.Common.{◌≡◌, ◌≤◌, ℕ, subst, arith}
 use Rattle.job_facts.specs.declared.request.Call.{Call}
 use Rattle.job_facts.specs.declared.request.Call.TheVariants.{Job, Release}

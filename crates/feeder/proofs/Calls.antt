@@ -1,4 +1,4 @@
--- What each call of a feeder does to its machine, and to the card that is in.
+-- The effect of each call of a feeder on its machine and on the inserted card.
 use Rattle.std.proofs.Common.{◌≡◌, ◌<◌, ◌^◌, ◌+◌, ◌&&◌, ℕ, true, false, List, take, Option, Some, None, refl, sym, ap, ◌∙◌, subst, arith}
 use Rattle.std.specs.Prelude.{nat_le, nat_lt}
 use Rattle.std.proofs.lemmas.Bool.{and_parts, cond_both, leb-true, leb-false}
@@ -21,7 +21,7 @@ use Rattle.feeder.proofs.Fine.{Fine, Fits, Fresh, HasCard, Holds}
 use Rattle.feeder.proofs.Going.{Goes}
 use Rattle.feeder.proofs.Rows.{IsQuietAct, PutOutIs, apply_goes, quiet_goes}
 
--- nothing is put out as good
+-- An action that rejects the card, sends the request or waits ejects no card as good.
 put_bad : (f : Facts) (card : Option ℕ) → PutOutIs f card (Eject false)
 put_bad f None = tt
 put_bad f (Some c) = tt
@@ -48,7 +48,7 @@ module _ (names : List (List ℕ)) (w : World) (name : List ℕ) (x : Machine) (
   abbrev f : Facts
   f = w.contents.facts
 
-  -- the machine goes on by this row
+  -- `Goes` is true of the machine and the cards after the move and the action of `row`
   abbrev pub GoesBy : Row → Type 0
   GoesBy row = Goes names w name (record { feeder = moved x.feeder row.move; card = card_left x.card row.act }) w.boots (cards_after w.cards x.card row.act)
 
@@ -58,7 +58,7 @@ module _ (names : List (List ℕ)) (w : World) (name : List ℕ) (x : Machine) (
   pub no_row_goes : GoesBy no_row
   no_row_goes = let was = fine.machines name x is in quiet_goes names w name x is fine no_row tt tt was.feeder was.name_is was.holds refl (put_wait f x.card)
 
-  -- a stand, as far as the rest of the feeder stays
+  -- A feeder that changes only its state keeps its invariant if the new state is valid.
   stands_is : (stand : Stand) → IsStand x.feeder.boot x.feeder.place stand → IsFeeder (moved x.feeder (Stands stand))
   stands_is stand ok = let was = feeder_is in
       record { machine = was.machine; boot_least = was.boot_least; boot_most = was.boot_most; place_least = was.place_least; place_most = was.place_most; stand = ok }
@@ -122,7 +122,7 @@ module _ (names : List (List ℕ)) (w : World) (name : List ℕ) (x : Machine) (
   answer_goes s k sw (reply.Faulty fault) has fits = idle_goes (Eject false) tt (put_bad f x.card)
   answer_goes s k sw _ has fits = no_row_goes
 
-  -- the reply to what is asked
+  -- `Goes` is true after the reply to the pending request.
   pub reply_goes : (call : Call) (r : Reply) → x.feeder.stand ≡ Asks call → Fits f w.contents.marks name call r → Fresh w.cards call r → GoesBy (reply_row call r)
   reply_goes call r stand fits fresh = at call fits fresh (subst (IsStand x.feeder.boot x.feeder.place) stand feeder_is.stand) (subst (Holds f w.cards name x.card) stand (fine.machines name x is).holds)
     where
@@ -140,7 +140,7 @@ module _ (names : List (List ℕ)) (w : World) (name : List ℕ) (x : Machine) (
       at (Job (request.Withdraw b rec)) fits fresh asked holds = no_row_goes
       at (Job (request.Close b)) fits fresh asked holds = no_row_goes
 
-  -- a card's status word
+  -- `Goes` is true after a status word of the card.
   pub card_goes : (sw : ℕ) → sw < 2 ^ 16 → GoesBy (card_row x.feeder.place x.feeder.stand sw)
   card_goes sw small = at x.feeder.stand feeder_is.stand (fine.machines name x is).holds
     where

@@ -1,4 +1,4 @@
--- Each event keeps what stays true.
+-- Every event keeps `Fine` true.
 use Rattle.std.proofs.Common.{◌≡◌, ◌≤◌, ◌<◌, ◌^◌, ◌⊎◌, ◌+◌, ◌==◌, ◌||◌, ℕ, zero, suc, true, false, List, [], ◌∷◌, ◌++◌, length, take, Option, Some, None, Result, Ok, Err, refl, sym, ap, ◌∙◌, subst, inl, inr, arith}
 use Rattle.std.specs.Prelude.{nat_lt, slice_get, ⊤}
 use Rattle.std.specs.List.{list_any}
@@ -35,7 +35,7 @@ use Rattle.feeder.proofs.Rows.{moved_own, moved_sent}
 use Rattle.feeder.proofs.Calls.{card_goes, no_row_goes, reply_goes}
 use Rattle.feeder.proofs.Arriving.{Comes, decides_fine, number_apart}
 
--- ---- the beginning
+-- ---- the start
 
 pub start_fine : (names : List (List ℕ)) → Fine names at_first
 start_fine names = record {
@@ -61,7 +61,7 @@ start_fine names = record {
     none_numbered zero x is = none-some x is
     none_numbered (suc i) x is = none_at i x is
 
--- ---- a card is put in
+-- ---- the insertion of a card
 
 insert_fine : (names : List (List ℕ)) (w : World) (name b : List ℕ) (serial : ℕ) (o : Option Machine) → w.machines name ≡ o → IsName b → serial < 10 ^ 18
     → Fine names w → Fine names (inserted w name b serial o)
@@ -109,7 +109,7 @@ insert_fine names w name b serial (Some x) is name_b small fine = at x.feeder.st
         })
         fine)
 
--- ---- what is asked becomes a packet
+-- ---- sending the pending request
 
 same_call : (a b : Call) → Asks a ≡ Asks b → a ≡ b
 same_call a b e = cc
@@ -121,7 +121,7 @@ asked_done f cards name card (Job (request.Answer s k sw)) has =
     (has.session, has.there, omega (arith, long, length-take-le (k + 1) (sequence_of f has.session) (omega (arith, within))))
 asked_done f cards name card _ has = tt
 
--- the last of a list and one more
+-- An element of a list with `y` appended is an element of the list, or `y`.
 pub at_push : {X : Type 0} (xs : List X) (y : X) (i : ℕ) (z : X) → slice_get (xs ++ y ∷ []) i ≡ Some z → (slice_get xs i ≡ Some z) ⊎ (y ≡ z)
 at_push [] y zero z is = inr (same_Some y z is)
 at_push [] y (suc i) z is = absurd (none_at i z is)
@@ -261,7 +261,7 @@ office_done : (f : Facts) (cards : Cards) (call : Call) → is_of_machines call 
 office_done f cards (Job (request.Answer s k sw)) un = absurd (false≢true (sym un))
 office_done f cards _ un = tt
 
--- ---- a reply
+-- ---- the delivery of a reply
 
 deliver_fine : (names : List (List ℕ)) (reads : HttpReply → Option Reply) (w : World) (j : ℕ) (o : Option Answered) → ReadsBack reads → slice_get w.replies j ≡ o → Fine names w → Fine names (delivered reads w o)
 deliver_fine names reads w j None back is fine = fine
@@ -309,7 +309,7 @@ deliver_fine names reads w j (Some g) back is fine = machine_at (w.machines g.ar
         ] at in
         subst (λ o. Fine names (heard w g x o)) (sym read) (by_stand x.feeder.stand refl)
 
--- ---- a word of a card
+-- ---- a status word of a card
 
 card_fine : (names : List (List ℕ)) (w : World) (name : List ℕ) (sw : ℕ) (o : Option Machine) → w.machines name ≡ o → sw < 2 ^ 16 → Fine names w → Fine names (worded w name sw o)
 card_fine names w name sw None is small fine = fine
@@ -320,7 +320,7 @@ card_fine names w name sw (Some x) is small fine = at x.card refl
     at (Some serial) some =
         subst (λ c. Fine names (acts w name c (after_card x.feeder sw))) some (goes_fine names w name _ w.boots _ (card_goes names w name x is fine sw small) fine)
 
--- ---- power
+-- ---- the start of a machine
 
 power_fine : (names : List (List ℕ)) (w : World) (name : List ℕ) (boot : ℕ) → is_used w name boot ≡ false → IsName name → 1 ≤ boot → boot ≤ 9999999999 → is_name_of names name ≡ true
     → Fine names w → Fine names (powered w name boot)
@@ -358,9 +358,9 @@ power_fine names w name boot unused is_name least most listed fine =
     })
     fine
 
--- ---- any event
+-- ---- all events
 
--- the name of a machine that an event brings in is one of these
+-- if the event starts a machine, the name of the machine is in `names`
 abbrev pub IsListed : List (List ℕ) → Event → Type 0
 IsListed names (event.Power machine boot) = is_name_of names machine ≡ true
 IsListed names _ = ⊤

@@ -1,4 +1,4 @@
--- What stays true on every shop floor.
+-- The invariant of the shop floor, `Fine`.
 use Rattle.std.proofs.Common.{◌≡◌, ◌≤◌, ◌<◌, ◌^◌, ◌⊎◌, ◌+◌, ◌==◌, ℕ, true, List, [], length, take, All, Option, Some}
 use Rattle.std.specs.Prelude.{slice_get, ⊤}
 use Rattle.std.specs.List.{list_any}
@@ -29,13 +29,14 @@ Cards = ℕ → Card
 abbrev pub Machines : Type 0
 Machines = List ℕ → Option Machine
 
--- how many commands a card received
+-- the number of commands that the card with serial number `serial` received
 abbrev pub got : Cards → ℕ → ℕ
 got cards serial = length (cards serial).received
 
 -- ---- packets
 
--- a packet has a number of its own, and that of the pending request is the pending request's
+-- packet `p` was sent by the machine with the boot numbers `boots` and the feeder `feeder`; if it
+-- has the number of the pending request, it contains that request
 pub record IsSent (boots : List ℕ) (feeder : FeederState) (p : Packet) : Type 0 where
   pub boot : list_any (λ b. b == p.boot) boots ≡ true
   pub boot_least : 1 ≤ p.boot
@@ -46,7 +47,8 @@ pub record IsSent (boots : List ℕ) (feeder : FeederState) (p : Packet) : Type 
   pub late : p.boot ≡ feeder.boot → p.place ≤ feeder.place
   pub mine : p.boot ≡ feeder.boot → p.place ≡ feeder.place → (call : Call) → feeder.stand ≡ Asks call → p.call ≡ call
 
--- the word of an answer is for a command that its session's card received
+-- the card of the session received the command to which the status word of an `answer` request
+-- belongs
 abbrev pub HasDone : Facts → Cards → Call → Type 0
 HasDone f cards (Job r) = AnswersWithin (got cards) f r
 HasDone f cards (Release upto) = ⊤
@@ -57,20 +59,21 @@ pub record IsFinePacket (f : Facts) (cards : Cards) (machines : Machines) (boots
   pub sent : IsSent (boots p.machine) sender.feeder p
   pub done : HasDone f cards p.call
 
--- one number, one call
+-- packets of one machine with the same request number contain the same request
 abbrev pub Agree : List Packet → Type 0
 Agree packets = (i j : ℕ) (p q : Packet) → slice_get packets i ≡ Some p → slice_get packets j ≡ Some q → p.machine ≡ q.machine → p.boot ≡ q.boot → p.place ≡ q.place → p.call ≡ q.call
 
 -- ---- replies
 
--- what a reply to a machine's call says, and goes on to say
+-- `f` and `marks` are as reply `r` to a request of `machine` states; this stays true for later
+-- facts and marks
 abbrev pub Fits : Facts → List Mark → List ℕ → Call → Reply → Type 0
 Fits f marks machine (Job (request.Open b blank)) r = OpenFits f machine blank r
 Fits f marks machine (Job (request.Answer s k sw)) r = AnswerFits f machine s k r
 Fits f marks machine (Job _) r = ⊤
 Fits f marks machine (Release upto) r = status_of r ≡ 200 → upto ≤ mark_of marks machine
 
--- the packet is of what its machine asks now
+-- packet `p` contains the pending request of its machine
 pub record IsPending (machines : Machines) (p : Packet) : Type 0 where
   pub sender : Machine
   pub there : machines p.machine ≡ Some sender
@@ -78,7 +81,7 @@ pub record IsPending (machines : Machines) (p : Packet) : Type 0 where
   pub place : sender.feeder.place ≡ p.place
   pub stand : sender.feeder.stand ≡ Asks p.call
 
--- a card whose opening got a command received none yet
+-- if the reply opens a session, the card with serial number `blank` has received no command yet
 abbrev pub OpensFresh : Cards → ℕ → Reply → Type 0
 OpensFresh cards blank (reply.Opened batch http_reply command rec s) = (cards blank).received ≡ []
 OpensFresh cards blank _ = ⊤
@@ -87,7 +90,7 @@ abbrev pub Fresh : Cards → Call → Reply → Type 0
 Fresh cards (Job (request.Open b blank)) r = OpensFresh cards blank r
 Fresh cards _ r = ⊤
 
--- what a machine got under a number: a reply to the packet of that number
+-- `http_reply` is the text of a reply to a packet of `client` with the request number `number`
 pub record IsAnswered (f : Facts) (marks : List Mark) (cards : Cards) (machines : Machines) (packets : List Packet) (client : List ℕ) (number : ℕ) (http_reply : HttpReply) : Type 0 where
   pub packet : Packet
   pub at : ℕ
@@ -108,7 +111,8 @@ pub record IsFineAnswer (f : Facts) (marks : List Mark) (cards : Cards) (machine
   pub http_reply : IsAnswered f marks cards machines packets g.arrival.client g.arrival.number g.http_reply
   pub call : http_reply.packet.call ≡ g.arrival.request
 
--- what is kept for machines is fine, and what machines got; offices are of no concern
+-- the kept replies and the decided arrivals of machines satisfy `IsFineEntry` and `IsFineAnswer`;
+-- nothing is required of offices
 abbrev pub IsKeptFine : List (List ℕ) → Facts → List Mark → Cards → Machines → List Packet → Entry → Type 0
 IsKeptFine names f marks cards machines packets e = is_name_of names e.client ≡ true → IsFineEntry f marks cards machines packets e
 
@@ -117,7 +121,8 @@ IsDecidedFine names f marks cards machines packets g = is_name_of names g.arriva
 
 -- ---- machines and cards
 
--- the card that is in is that of the machine's session s, and has the commands up to command k
+-- the inserted card belongs to session `s` of machine `name`, and it received the commands of the
+-- session's record up to command `k`
 pub record HasCard (f : Facts) (cards : Cards) (name : List ℕ) (card : Option ℕ) (s k : ℕ) : Type 0 where
   pub session : Session
   pub there : session_numbered f.sessions s ≡ Some session

@@ -1,4 +1,4 @@
--- A machine goes on, and the network and the server stay as they were.
+-- An action of one machine keeps `Fine` true and leaves the network and the server unchanged.
 use Rattle.std.proofs.Common.{◌≡◌, ◌≤◌, ◌==◌, ℕ, true, false, List, All, Some, refl, sym, ap, ◌∙◌, subst, inl, inr, arith}
 use Rattle.std.specs.Prelude.{bytes_eq, slice_get}
 use Rattle.std.specs.List.{list_any}
@@ -18,7 +18,7 @@ use Rattle.feeder.specs.World.{Machine, Packet, World, at_name}
 use Rattle.feeder.specs.ShopFloor.{IsCountedGood}
 use Rattle.feeder.proofs.Fine.{Cards, Machines, Fine, Fits, Fresh, HasDone, Holds, IsFineCard, IsFineMachine, IsFinePacket, IsDecidedFine, IsKeptFine, IsSent, IsAnswered, got}
 
--- what holds of each holds of one of them
+-- A property of all elements of a list is true of the element at position `i`.
 pub all_at : {X : Type 0} (P : X → Type 0) (xs : List X) (i : ℕ) (x : X) → All P xs → slice_get xs i ≡ Some x → P x
 all_at P xs i x all is = subst P (get_or_from_slice_get xs i x x is) (all i x (slice_get_within xs i x is))
 
@@ -34,23 +34,24 @@ at_same name v f n is = cond-true (bytes_eq n name) v (f n) is
 pub at_other : {T : Type 0} (name : List ℕ) (v : T) (f : List ℕ → T) (n : List ℕ) → bytes_eq n name ≡ false → at_name name v f n ≡ f n
 at_other name v f n is = cond-false (bytes_eq n name) v (f n) is
 
--- more commands at cards: what was done stays done
+-- `HasDone` stays true when cards receive more commands.
 pub done_more : (f : Facts) (cards now : Cards) (call : Call) → ((serial : ℕ) → got cards serial ≤ got now serial) → HasDone f cards call → HasDone f now call
 done_more f cards now (Job (request.Answer s k sw)) more done = (done.0, done.1, omega (arith, done.2, more done.0.blank))
 done_more f cards now _ more done = tt
 
--- what is owed of a machine that goes on as y, with these boots, and of the cards afterwards
+-- the conditions under which `Fine` stays true when machine `name` becomes `y`, with the boot
+-- numbers `boots` and the cards `cards`
 pub record Goes (names : List (List ℕ)) (w : World) (name : List ℕ) (y : Machine) (boots : List ℕ → List ℕ) (cards : Cards) : Type 0 where
   pub ok : IsFineMachine names w.contents.facts cards (boots name) name y
   pub boots_other : (m : List ℕ) → bytes_eq m name ≡ false → boots m ≡ w.boots m
   pub sent : (x : Machine) (p : Packet) → w.machines name ≡ Some x → IsSent (w.boots name) x.feeder p → IsSent (boots name) y.feeder p
-  -- what it asks now it asked before
+  -- if the pending request of `y` was sent before, it was already pending before
   pub own : (x : Machine) (p : Packet) → w.machines name ≡ Some x → IsSent (w.boots name) x.feeder p → y.feeder.boot ≡ p.boot → y.feeder.place ≡ p.place → y.feeder.stand ≡ Asks p.call
       → (x.feeder.boot ≡ p.boot) × (x.feeder.place ≡ p.place) × (x.feeder.stand ≡ Asks p.call) × ((r : Reply) → Fresh w.cards p.call r → Fresh cards p.call r)
   pub more : (serial : ℕ) → got w.cards serial ≤ got cards serial
   pub cards_ok : (serial : ℕ) → IsFineCard w.contents.facts serial (cards serial).received
   pub put_out : (serial : ℕ) → (cards serial).is_good ≡ true → IsCountedGood w.contents.facts serial
-  -- the other machines' cards stay
+  -- the other machines and their cards are not affected
   pub holds_other : (m : List ℕ) (x : Machine) → bytes_eq m name ≡ false → Holds w.contents.facts w.cards m x.card x.feeder.stand → Holds w.contents.facts cards m x.card x.feeder.stand
   pub fresh_other : (p : Packet) (r : Reply) → bytes_eq p.machine name ≡ false → Fits w.contents.facts w.contents.marks p.machine p.call r → Fresh w.cards p.call r → Fresh cards p.call r
 

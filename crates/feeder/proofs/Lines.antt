@@ -1,4 +1,4 @@
--- What follows of a shop floor where all that stays true is true.
+-- The clauses of the shop-floor theorem that follow from the invariant `Fine`.
 use Rattle.std.proofs.Common.{◌≡◌, ◌≤◌, ◌<◌, ◌⊎◌, ◌*◌, ◌==◌, ℕ, true, false, Option, Some, None, List, [], ◌∷◌, ◌++◌, length, length-append, refl, sym, ap, ◌∙◌, subst, inl, inr, append-nil, arith}
 use Rattle.std.specs.Prelude.{bytes_eq, filter, get_or, slice_get}
 use Rattle.std.proofs.lemmas.Bool.{cases_Bool, cond-true, le-leb}
@@ -75,7 +75,7 @@ module _ (names : List (List ℕ)) (w : World) (fine : Fine names w) where
   fits_release : (marks : List Mark) (m : List ℕ) (call : Call) (upto : ℕ) (r : Reply) → call ≡ Release upto → Fits f marks m call r → status_of r ≡ 200 → upto ≤ mark_of marks m
   fits_release marks m call upto r is fits = let P : Call → Type 0 = λ c. Fits f marks m c r in subst P is fits
 
-  -- the mark of a machine whose release was accepted has reached it
+  -- The release mark of a machine has reached each of its accepted releases.
   released : (g : Answered) (i upto : ℕ) → slice_get w.decided i ≡ Some g → is_name_of names g.arrival.client ≡ true → g.arrival.request ≡ Release upto → g.http_reply.status ≡ 200
       → upto ≤ mark_of w.contents.marks g.arrival.client
   released g i upto there listed request accepted =

@@ -1,4 +1,4 @@
--- A reading that finds each reply by its text: that of the body's JSON.
+-- A reading that finds each reply from its text: it parses the JSON body.
 use Rattle.std.proofs.Common.{Option, ap, ◌∙◌}
 use Rattle.std.specs.Prelude.{option_and_then}
 use Rattle.serde_json.specs.Read.{read}

@@ -1,5 +1,5 @@
--- What is recorded of arrivals: their meaning, what each got, that repeats get it again, and
--- releases.
+-- The invariant of the decided arrivals: the contents are those after these arrivals, each arrival
+-- got its reply, a repeat gets the same reply again, and the releases satisfy `ReleasesStand`.
 use Rattle.std.proofs.Common.{◌≡◌, ◌⊎◌, ◌||◌, ℕ, zero, suc, true, false, List, [], ◌∷◌, ◌++◌, length, take, All, Option, Some, None, Result, Ok, Err, refl, sym, ap, ◌∙◌, inl, inr, arith}
 use Rattle.std.specs.Prelude.{slice_get}
 use Rattle.std.proofs.Math.Seq.{take-append_seam}
@@ -108,7 +108,7 @@ arrives_recorded w a No is =
       acknowledged = All-push (λ (b : Answered). (i : ℕ) × (slice_get (decides w a).decided i ≡ Some b)) w.replies g now.acknowledged (length w.decided, last_at w.decided g);
     }
 
--- the other events leave what is recorded
+-- All events keep the invariant. Only arrivals change the contents or the decided arrivals.
 insert_recorded : (w : World) (name b : List ℕ) (serial : ℕ) (o : Option Machine) → RecordedIn w → RecordedIn (inserted w name b serial o)
 insert_recorded w name b serial None is = is
 insert_recorded w name b serial (Some x) is = at (after_insert x.feeder b serial)

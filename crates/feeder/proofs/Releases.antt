@@ -1,4 +1,5 @@
--- Releases of any client: marks have reached those that were accepted.
+-- The release mark of every client, including an office, has reached each of its accepted releases
+-- whose request bytes belong to one request.
 use Rattle.std.proofs.Common.{◌≡◌, ◌≤◌, ◌==◌, ◌&&◌, ℕ, List, [], ◌∷◌, ◌++◌, length, All, Some, refl, sym, ap, ◌∙◌, subst, inl, inr, arith}
 use Rattle.std.specs.Prelude.{bytes_eq, slice_get}
 use Rattle.std.proofs.Math.Seq.{take-append_seam}
@@ -21,8 +22,8 @@ use Rattle.feeder.proofs.Arriving.{release_fits}
 use Rattle.feeder.proofs.Events.{last_at}
 use Rattle.feeder.proofs.Going.{all_at, same_name}
 
--- an entry keeps the reply to a decided arrival; if that is an accepted release, its client's mark
--- has reached it
+-- entry `e` keeps the reply to a decided arrival; if the arrival is an accepted release, the
+-- release mark of its client has reached it
 pub record IsKeptOf (marks : List Mark) (decided : List Answered) (e : Entry) : Type 0 where
   pub one : Answered
   pub at : ℕ
@@ -42,9 +43,9 @@ pub record ReleasesStand (c : Contents) (decided : List Answered) : Type 0 where
 pub none_stand : ReleasesStand no_contents []
 none_stand = record { kept = All-nil (IsKeptOf no_contents.marks []); reached = All-nil (HasReached no_contents.marks []) }
 
--- ---- one more is decided
+-- ---- another decided arrival
 
--- what was one request among more was one before
+-- `IsOneRequest` is also true without the last decided arrival.
 one_before : (decided : List Answered) (g : Answered) (a : Arrived) → IsOneRequest (decided ++ g ∷ []) a → IsOneRequest decided a
 one_before decided g a one =
     let P : Answered → Type 0 = λ h. h.arrival.client ≡ a.client → h.arrival.number ≡ a.number → h.arrival.ask ≡ a.ask → h.arrival.request ≡ a.request in
@@ -73,7 +74,8 @@ module _ (c d : Contents) (decided : List Answered) (g : Answered) (grow : (n : 
 
 -- ---- an arrival
 
--- the first of a number that is an accepted release
+-- If the first arrival with a request number is an accepted release, the release mark of its client
+-- reaches it.
 first_reaches : (f : Facts) (marks : List Mark) (client : List ℕ) (number : ℕ) (call : Call) (upto : ℕ) → call ≡ Release upto → status_of (reply_by f marks client number call) ≡ 200
     → upto ≤ mark_of (marks_by marks client number call) client
 first_reaches f marks client number call upto is =
@@ -84,14 +86,15 @@ module _ (c : Contents) (a : Arrived) (decided : List Answered) (is : ReleasesSt
   abbrev with_reply : HttpReply → List Answered
   with_reply t = decided ++ record { arrival = a; http_reply = t } ∷ []
 
-  -- the contents stay
+  -- `ReleasesStand` stays true if the contents don't change.
   same_stand : (t : HttpReply) → HasReached c.marks (with_reply t) (record { arrival = a; http_reply = t }) → ReleasesStand c (with_reply t)
   same_stand t new =
       let g : Answered = record { arrival = a; http_reply = t } in
       let grow : (n : List ℕ) → mark_of c.marks n ≤ mark_of c.marks n = λ n. omega arith in
       record { kept = all_kept c c decided g grow is.kept; reached = all_reached c c decided g grow is.reached new }
 
-  -- the kept reply is one to the same request
+  -- If a repeated release gets a kept reply with status 200, the release mark has already reached
+  -- it, because the reply belongs to the same request.
   again_reaches : (e : Entry) → entry_of c.kept a.client a.number ≡ Some e → HasReached c.marks (with_reply (http_reply_by a.ask e)) (record { arrival = a; http_reply = http_reply_by a.ask e })
   again_reaches e some upto request ok one =
       let kept : HttpReply = record { status = e.status; body = e.body } in

@@ -1,4 +1,4 @@
--- What the replies of the plain machine say to machines, and go on to say.
+-- The facts that the replies of the reference model state to machines. They stay true later.
 use Rattle.std.proofs.Common.{◌≡◌, ◌<◌, ◌+◌, ℕ, List, length, Some, refl, sym, ap, ◌∙◌, arith}
 use Rattle.std.specs.Prelude.{false, slice_get, ⊤}
 use Rattle.job_facts.specs.declared.facts.SessionState.TheVariants as session
@@ -17,28 +17,28 @@ use Rattle.step_laws.proofs.GoodCards.{running_begun}
 use Rattle.arrivals.specs.Commands.{IsCommand}
 use Rattle.wire.specs.ReplyText.{IsReply}
 
--- an opening that got a command opened this session of its blank, and the command is its record's
--- first
+-- if reply `r` to an opening contains a command, its session belongs to `client` and `blank`, and
+-- the command is the first of the session's record
 abbrev pub OpenFits : Facts → List ℕ → ℕ → Reply → Type 0
 OpenFits f client blank (reply.Opened batch named command rec s) = (x : Session) × (session_numbered f.sessions s ≡ Some x) × (x.machine ≡ client) × (x.blank ≡ blank) × IsCommand f x.batch x.rec 0 command
 OpenFits f client blank _ = ⊤
 
--- an answer that got a command got the next of its session's record, and one that got good made its
--- session good
+-- if reply `r` to an `answer` request contains a command, it is the next command of the session's
+-- record; if `r` is `Good`, session `s` is good
 abbrev pub AnswerFits : Facts → List ℕ → ℕ → ℕ → Reply → Type 0
 AnswerFits f client s k (reply.Next command index named) =
     (named ≡ s) × (index ≡ k + 1) × (x : Session) × (session_numbered f.sessions s ≡ Some x) × (x.machine ≡ client) × IsCommand f x.batch x.rec index command
 AnswerFits f client s k (reply.Good named) = (named ≡ s) × (x : Session) × (session_numbered f.sessions s ≡ Some x) × (session_state f x ≡ session.Good)
 AnswerFits f client s k _ = ⊤
 
--- ---- for good
+-- ---- later facts
 
 command_later : (f g : Facts) (b r c q : List ℕ) (k : ℕ) (command : List ℕ) → c ≡ b → q ≡ r → commands_for g b r ≡ commands_for f b r → IsCommand f b r k command → IsCommand g c q k command
 command_later f g b r c q k command batch rec same is =
     let here : commands_for g c q ≡ commands_for f b r = ap (λ n. commands_for g n q) batch ∙ ap (commands_for g b) rec ∙ same in
     (is.0, ap (λ cs. slice_get cs k) here ∙ is.1, is.2)
 
--- a good session stays good
+-- A good session stays good.
 pub good_later : (f g : Facts) (s : ℕ) (x : Session) (y : IsLaterSession f g s x) → session_state f x ≡ session.Good → session_state g y.now ≡ session.Good
 good_later f g s x y good =
     let over = y.over (λ runs. running_apart (sym runs ∙ good)) in
@@ -62,9 +62,9 @@ answer_later f g client s k (reply.Good named) later fits =
     (fits.0, y.now, y.there, good_later f g s fits.1 y fits.3)
 answer_later f g client s k _ later fits = tt
 
--- ---- at the step
+-- ---- a step of the reference model
 
--- command k of a running session's record, where the session has k words
+-- The next command of a running session with `k` status words is command `k` of its record.
 command_is : (g : Facts) (s k : ℕ) (x : Session) (command : List ℕ) → IsSound g → session_numbered g.sessions s ≡ Some x → session_state g x ≡ session.Running → length x.words ≡ k
     → command ≡ command_at g x.batch x.rec k → IsCommand g x.batch x.rec k command
 command_is g s k x command sound there runs words is =
@@ -89,7 +89,7 @@ answer_says f g client s k sw (reply.Good named) sound may says =
     (may, says.0, ap (session_numbered g.sessions) (sym may) ∙ own.there, own.stands)
 answer_says f g client s k sw _ sound may says = tt
 
--- what is opened had no charge
+-- if the reply opens a session, `blank` isn't charged in `f`
 abbrev pub OpensFree : Facts → ℕ → Reply → Type 0
 OpensFree f blank (reply.Opened batch named command rec s) = is_charged f blank ≡ false
 OpensFree f blank _ = ⊤
@@ -100,7 +100,7 @@ opens_free f g client b blank _ may says = tt
 
 -- ---- ranges
 
--- no request gets a release mark
+-- No job request gets the reply `Released` or `NumberReleased`.
 never_released : (q : Request) (mark : ℕ) → MayGetReply q (reply.Released mark) → ⊥
 never_released (request.Product p) mark may = may
 never_released _ mark may = may
@@ -109,7 +109,7 @@ never_gone : (q : Request) (mark : ℕ) → MayGetReply q (reply.NumberReleased 
 never_gone (request.Product p) mark may = may
 never_gone _ mark may = may
 
--- a reply in its ranges can be read back
+-- A reply to a job request satisfies `IsReply` if it is in its ranges.
 pub reply_ranged : (q : Request) (r : Reply) → MayGetReply q r → IsRangedReply r → IsReply r
 reply_ranged q (reply.Product p made) may is = is
 reply_ranged q (reply.Lot l made) may is = is

@@ -1,4 +1,4 @@
--- What each row of the table does to its machine, and to the card that is in.
+-- The effect of each row of the table on its machine and on the inserted card.
 use Rattle.std.proofs.Common.{◌≡◌, ◌≢◌, ◌≤◌, ◌+◌, ◌==◌, ◌||◌, ℕ, suc, Bool, true, false, List, [], ◌∷◌, ◌++◌, length, take, drop, Option, Some, None, refl, sym, ap, ◌∙◌, subst, inl, inr, arith}
 use Rattle.std.specs.Prelude.{bytes_eq, slice_get, ⊤, option_map}
 use Rattle.std.specs.List.{list_any}
@@ -28,7 +28,7 @@ use Rattle.feeder.proofs.Going.{Goes, name_same}
 
 -- ---- moves
 
--- a move that leads to a stand asks nothing there
+-- if the move leads to a given state, no request is pending in that state
 abbrev pub IsQuietMove : Move → Type 0
 IsQuietMove Stays = ⊤
 IsQuietMove (Stands stand) = (call : Call) → stand ≡ Asks call → ⊥
@@ -63,7 +63,7 @@ moved_own boots f Stays p quiet is boot place stand = (boot, place, stand)
 moved_own boots f (Stands s) p quiet is boot place stand = absurd (quiet p.call stand)
 moved_own boots f (Makes call) p quiet is boot place stand = absurd (omega (arith, is.late (sym boot), place))
 
--- ---- cards of which none receives a command
+-- ---- cards that receive no command
 
 abbrev pub SameReceived : Cards → Cards → Type 0
 SameReceived cards now = (serial : ℕ) → (now serial).received ≡ (cards serial).received
@@ -76,7 +76,7 @@ pub fresh_same : (cards now : Cards) (call : Call) (r : Reply) → SameReceived 
 fresh_same cards now (Job (request.Open b blank)) r same is = fresh_opens cards now blank r same is
 fresh_same cards now _ r same is = tt
 
--- the same, where the card of what was opened receives nothing
+-- `OpensFresh` stays true if the card of the opened session receives no command.
 opens_by : (f : Facts) (m : List ℕ) (cards now : Cards) (blank : ℕ) (r : Reply)
     → ((t : ℕ) (z : Session) → session_numbered f.sessions t ≡ Some z → z.machine ≡ m → z.blank ≡ blank → (now blank).received ≡ (cards blank).received)
     → OpenFits f m blank r → OpensFresh cards blank r → OpensFresh now blank r
@@ -99,7 +99,7 @@ has_same f cards now name card s k same is = record {
   within = is.within;
 }
 
--- a stand that holds no card is of no concern
+-- `Holds` stays true if `HasCard` does. The other states require nothing of received commands.
 holds_by : (f : Facts) (cards now : Cards) (m name : List ℕ) (card : Option ℕ) (stand : Stand)
     → ((s k : ℕ) → HasCard f cards name card s k → HasCard f now m card s k) → Holds f cards name card stand → Holds f now m card stand
 holds_by f cards now m name card (HasCommand s k) has is = has s k is
@@ -110,7 +110,7 @@ holds_by f cards now m name card _ has is = tt
 pub holds_same : (f : Facts) (cards now : Cards) (name : List ℕ) (card : Option ℕ) (stand : Stand) → SameReceived cards now → Holds f cards name card stand → Holds f now name card stand
 holds_same f cards now name card stand same is = holds_by f cards now name name card stand (λ s k. has_same f cards now name card s k same) is
 
--- no command is among the acts
+-- the action isn't `Apply`, so the card receives no command
 abbrev pub IsQuietAct : Act → Type 0
 IsQuietAct (Apply command) = ⊥
 IsQuietAct (Eject good) = ⊤
@@ -126,7 +126,7 @@ same_after cards (Some serial) (Eject good) quiet = λ s.
     cond_both {A = Card} (s == serial) (put_out (cards serial) good) (cards s) (λ c. c.received ≡ (cards s).received)
     (λ hit. ap (λ n. (cards n).received) (sym (eqb-true s serial hit))) (λ miss. refl)
 
--- a card that is put out as good is counted so
+-- if the action ejects the card as good, the card is counted good
 abbrev pub PutOutIs : Facts → Option ℕ → Act → Type 0
 PutOutIs f (Some serial) (Eject true) = IsCountedGood f serial
 PutOutIs f card act = ⊤
@@ -153,7 +153,7 @@ good_after f cards (Some c) (Eject false) is fine serial good =
     or_false true h = refl
     or_false false h = h
 
--- ---- a quiet row
+-- ---- a row without a command for the card
 
 module _ (names : List (List ℕ)) (w : World) (name : List ℕ) (x : Machine) (is : w.machines name ≡ Some x) (fine : Fine names w) where
   abbrev f : Facts
@@ -200,7 +200,7 @@ module _ (names : List (List ℕ)) (w : World) (name : List ℕ) (x : Machine) (
         fresh_other = λ p r other fits. fresh_same w.cards (now row) p.call r same;
       }
 
-  -- ---- a row that hands a command to the card
+  -- ---- a row with a command for the card
 
   take_next : (xs : List (List ℕ)) (k : ℕ) (c : List ℕ) → slice_get xs k ≡ Some c → take k xs ++ c ∷ [] ≡ take (k + 1) xs
   take_next xs k c at =

@@ -1,4 +1,4 @@
--- Whole lists of events.
+-- Every list of events keeps `Fine` true.
 use Rattle.std.proofs.Common.{◌≡◌, ℕ, true, List, [], ◌∷◌, All, Option}
 use Rattle.std.specs.Prelude.{bytes_eq}
 use Rattle.std.proofs.lemmas.Bool.{or_left, or_right}
@@ -14,7 +14,7 @@ use Rattle.feeder.proofs.Fine.{Fine}
 use Rattle.feeder.proofs.Going.{name_same}
 use Rattle.feeder.proofs.Events.{IsListed, happens_fine, start_fine}
 
--- each machine that the list brings in is among these names
+-- the names of all machines that are started in `es` are in `names`
 abbrev AreListed : List (List ℕ) → List Event → Type 0
 AreListed names es = (m : List ℕ) → is_name_of (machines_of es) m ≡ true → is_name_of names m ≡ true
 

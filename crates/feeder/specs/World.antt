@@ -1,5 +1,5 @@
 -- The shop floor: machines with their feeders and cards, a network that loses, repeats, delays and
--- reorders, and a server that stops.
+-- reorders packets, and a server that crashes.
 use Rattle.std.specs.Prelude.{◌==◌, ◌||◌, ℕ, Bool, true, false, if◌then◌else◌, List, [], ◌∷◌, ◌++◌, bytes_eq, slice_get, Option, Some, None, Result, Ok, Err}
 use Rattle.std.specs.List.{list_any}
 use Rattle.job_facts.specs.declared.request.Arrival.{Arrival}
@@ -18,19 +18,19 @@ use Rattle.feeder.specs.declared.world.Stop.{Stop}
 use Rattle.feeder.specs.declared.world.Stop.TheVariants.{No, Before, After}
 use Rattle.feeder.specs.Table.{Act, Apply, Done, Eject, FeederState, Send, Wait, after_card, after_insert, after_reply, asked, number_at, started}
 
--- ---- what there is
+-- ---- the state of the world
 
--- a machine that is there: its feeder, and the serial of the card that is in
+-- a machine that was started: its feeder, and the serial number of the inserted card
 pub record Machine : Type 0 where
   pub feeder : FeederState
   pub card : Option ℕ
 
--- a card: the commands that it received, and whether it was put out as good
+-- a card: the commands that it received, and whether it was ejected as good
 pub record Card : Type 0 where
   pub received : List (List ℕ)
   pub is_good : Bool
 
--- what a machine sent, in which boot, and at which place of it
+-- a request that a machine sent, with its boot number and its place in that boot
 pub record Packet : Type 0 where
   pub machine : List ℕ
   pub boot : ℕ
@@ -40,28 +40,28 @@ pub record Packet : Type 0 where
 abbrev pub arrival_of : Packet → Arrived
 arrival_of p = record { client = p.machine; number = number_at p.boot p.place; ask = ask_of p.call; request = p.call }
 
--- an arrival, with what it got
+-- an arrival with its reply
 pub record Answered : Type 0 where
   pub arrival : Arrived
   pub http_reply : HttpReply
 
 pub record World : Type 0 where
   pub contents : Contents
-  -- every packet ever sent, every reply ever given, and every arrival ever decided, whether or not
-  -- its reply was given; the oldest first
+  -- all packets that were sent, all replies that were given, and all arrivals that were decided,
+  -- even if their replies weren't given; the oldest first
   pub packets : List Packet
   pub replies : List Answered
   pub decided : List Answered
-  -- by name the machine, if it is there, and the boots that it used
+  -- by name: the machine, if it was started, and the boot numbers that it used
   pub machines : List ℕ → Option Machine
   pub boots : List ℕ → List ℕ
-  -- by serial
+  -- by serial number
   pub cards : ℕ → Card
 
 abbrev pub new_card : Card
 new_card = record { received = []; is_good = false }
 
--- nothing was sent or decided yet, and no machine is there
+-- nothing was sent or decided yet, and no machine was started
 abbrev pub at_first : World
 at_first = record {
   contents = no_contents;
@@ -73,23 +73,23 @@ at_first = record {
   cards = λ serial. new_card;
 }
 
--- ---- what an act does
+-- ---- the effect of an action
 
--- another value under one name, or one serial
+-- the values with another value for one name, or for one serial number
 abbrev pub at_name : {T : Type 0} → List ℕ → T → (List ℕ → T) → List ℕ → T
 at_name name value values n = if bytes_eq n name then value else values n
 
 abbrev pub at_serial : {T : Type 0} → ℕ → T → (ℕ → T) → ℕ → T
 at_serial serial value values s = if s == serial then value else values s
 
--- a command is received, a card is put out as good
+-- the card after it received a command, and after it was ejected
 abbrev pub with_command : Card → List ℕ → Card
 with_command c command = record c { received = c.received ++ command ∷ [] }
 
 abbrev pub put_out : Card → Bool → Card
 put_out c good = record c { is_good = c.is_good || good }
 
--- the card that is in, if there is one, gets it
+-- the cards after a change of the inserted card, if there is one
 abbrev pub with_card : (ℕ → Card) → Option ℕ → (Card → Card) → ℕ → Card
 with_card cards None change = cards
 with_card cards (Some serial) change = at_serial serial (change (cards serial)) cards
@@ -100,7 +100,7 @@ cards_after cards card (Eject good) = with_card cards card (λ c. put_out c good
 cards_after cards card Send = cards
 cards_after cards card Wait = cards
 
--- the card that is in afterwards
+-- the card that is inserted after an action
 abbrev pub card_left : Option ℕ → Act → Option ℕ
 card_left card (Eject good) = None
 card_left card (Apply command) = card
@@ -115,7 +115,7 @@ acts w name card d =
     let machine : Machine = record { feeder = d.0; card = card_left card d.1 } in
     record (with_machine w name machine) { cards = cards_after w.cards card d.1 }
 
--- ---- what each event does, where what it names is there
+-- ---- the effect of each event
 
 abbrev pub put_in : World → List ℕ → ℕ → FeederState × Result (Unit {0}) InsertFault → World
 put_in w name serial (f, Ok done) = with_machine w name (record { feeder = f; card = Some serial })
@@ -136,12 +136,12 @@ abbrev pub sent : World → Option Machine → World
 sent w None = w
 sent w (Some x) = sent_by w x.feeder (asked x.feeder)
 
--- an arrival with what it gets now
+-- arrival `a` with the reply that it gets now
 abbrev pub answered : World → Arrived → Answered
 answered w a = record { arrival = a; http_reply = http_reply_on w.contents a }
 
--- an arrival is decided, unless the server stops before that; its reply is given, unless it stops
--- then
+-- arrival `a` is decided unless the server crashes before its commit, and its reply is given unless
+-- the server crashes at all
 abbrev pub decides : World → Arrived → World
 decides w a = record w { contents = contents_after w.contents (a ∷ []); decided = w.decided ++ answered w a ∷ [] }
 
@@ -162,7 +162,7 @@ abbrev pub reached : World → Answered → Option Reply → Option Machine → 
 reached w g reply None = w
 reached w g reply (Some x) = heard w g x reply
 
--- the reply is the one that has this text
+-- the reply is read from its text
 abbrev pub delivered : (HttpReply → Option Reply) → World → Option Answered → World
 delivered reads w None = w
 delivered reads w (Some g) = reached w g (reads g.http_reply) (w.machines g.arrival.client)
@@ -182,7 +182,7 @@ powered w name boot =
 abbrev pub is_used : World → List ℕ → ℕ → Bool
 is_used w name boot = list_any (λ b. b == boot) (w.boots name)
 
--- machines alone open and answer
+-- the request is an opening or an answer, which only machines send
 abbrev pub is_of_machines : Call → Bool
 is_of_machines (Job (request.Open batch blank)) = true
 is_of_machines (Job (request.Answer session index sw)) = true
@@ -195,7 +195,7 @@ is_name_of names n = list_any (bytes_eq n) names
 abbrev pub arrived_as : Arrival → Arrived
 arrived_as a = record { client = a.client; number = a.number; ask = a.ask; request = a.request }
 
--- names are those that machines ever have
+-- `names` are the names of all machines in the list of events
 abbrev pub happens : (HttpReply → Option Reply) → List (List ℕ) → World → Event → World
 happens reads names w (event.Insert machine batch blank) = inserted w machine batch blank (w.machines machine)
 happens reads names w (event.Send machine) = sent w (w.machines machine)
@@ -206,13 +206,13 @@ happens reads names w (event.Power machine boot) = if is_used w machine boot the
 happens reads names w (event.Office arrival stop) =
     if is_name_of names arrival.client || is_of_machines arrival.request then w else arrives w (arrived_as arrival) stop
 
--- ---- whole lists
+-- ---- lists of events
 
 abbrev pub run : (HttpReply → Option Reply) → List (List ℕ) → List Event → World → World
 run reads names [] w = w
 run reads names (e ∷ es) w = run reads names es (happens reads names w e)
 
--- the names of the machines that a list brings in
+-- the names of the machines that are started in a list of events
 abbrev pub machines_of : List Event → List (List ℕ)
 machines_of [] = []
 machines_of (event.Power machine boot ∷ es) = machine ∷ machines_of es

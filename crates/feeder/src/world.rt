@@ -1,4 +1,4 @@
-//! The shop floor: machines, a network that loses, repeats and delays, and a server that stops.
+//! The events of a shop floor, and the theorem about every list of them.
 ghost use Rattle.std.specs.Prelude.{All, Option};
 ghost use Rattle.job_facts.specs.declared.reply.Reply.{Reply};
 ghost use Rattle.arrivals.specs.HttpReplies.{HttpReply};
@@ -12,104 +12,105 @@ ghost use Rattle.feeder.specs.World.{world_after};
 use job_facts::Arrival;
 use store_data::Name;
 
-/// Whether the server stops at an arrival.
+/// The moment at which the server crashes while it handles an arrival.
 #[derive(Clone, Copy, Debug, PartialEq, Eq)]
 pub enum Stop {
-    /// It doesn't.
+    /// The server doesn't crash.
     No,
-    /// Before its commit.
+    /// The server crashes before the commit.
     Before,
-    /// After its commit, and before its reply.
+    /// The server crashes after the commit and before the reply.
     After,
 }
 
-/// What may happen on a shop floor. What names a machine, a card, a packet or a reply that isn't
-/// there changes nothing.
+/// An event on a shop floor. An event with a machine, card, packet or reply that doesn't exist
+/// changes nothing.
 #[derive(Drop)]
 pub enum Event {
-    /// A card is put into a machine.
+    /// A card is inserted into a machine.
     Insert {
         machine: Name,
         batch: Name,
-        /// Its serial, of at most 18 digits.
+        /// The serial number of the card, of at most 18 digits.
         blank: u64,
     },
-    /// What a machine asks becomes a packet.
+    /// A machine sends its pending request as a packet.
     Send {
         machine: Name,
     },
-    /// A packet arrives, for the first time or again. They count from 0.
+    /// A packet arrives, for the first time or again. Packets are numbered from 0.
     Arrive {
         packet: u64,
         stop: Stop,
     },
-    /// A reply reaches the machine that sent its packet. They count from 0.
+    /// A reply reaches the machine that sent the request. Replies are numbered from 0.
     Deliver {
         reply: u64,
     },
-    /// The card in a machine gives a word.
+    /// The card in a machine returns a status word.
     Card {
         machine: Name,
         sw: u16,
     },
-    /// A machine loses what it knew, and starts. A boot that it had before changes nothing.
+    /// A machine loses its state and starts. A boot number that it had before changes nothing.
     Power {
         machine: Name,
-        /// 1 to 9,999,999,999.
+        /// The boot number, 1 to 9,999,999,999.
         boot: u64,
     },
-    /// A request of an office arrives: neither an opening nor an answer, under a name that no
-    /// machine of the list has.
+    /// A request of an office arrives. It is neither an opening nor an answer, and no machine of
+    /// the list of events has the name of its client.
     Office {
         arrival: Arrival,
         stop: Stop,
     },
 }
 
-/// Whatever happens on a shop floor, in whatever order, and wherever the server stops: a law. It
-/// does nothing.
+/// Lemma: the shop-floor theorem holds for every list of events, including crashes of the server.
+/// The function does nothing.
 pub fn every_world(events: &[Event])
     requires { All IsEvent events.now }
-    // A card counted good received exactly its record's sequence, each command once and in order.
+    // A card that is counted good received exactly the commands of its record, each once, in order.
     ensures whole { (reads : HttpReply → Option Reply) → ReadsBack reads
         → GoodCardsAreWhole (world_after reads events.now) }
-    // A card that received any command is charged to one session, and received a beginning of the
-    // sequence of that session's record.
+    // A card that received any command is charged to exactly one session. It received a prefix of
+    // the commands of that session's record.
     ensures charged { (reads : HttpReply → Option Reply) → ReadsBack reads
         → CardsAreCharged (world_after reads events.now) }
-    // No record has two cards counted good.
+    // No record has two cards that are counted good.
     ensures one_card { (reads : HttpReply → Option Reply) → ReadsBack reads
         → RecordsHaveOneCard (world_after reads events.now) }
-    // A card that was put out as good is counted good.
+    // A card that was ejected as good is counted good.
     ensures put_out { (reads : HttpReply → Option Reply) → ReadsBack reads
         → PutOutIsCounted (world_after reads events.now) }
-    // Once a machine's release in a boot is accepted, no packet of an earlier boot changes the
-    // contents.
+    // Once the release of a machine's boot is accepted, no packet of an earlier boot of that
+    // machine changes the contents.
     ensures over { (reads : HttpReply → Option Reply) → ReadsBack reads
         → OldBootsAreOver (world_after reads events.now) }
-    // The contents are the meaning of the decided arrivals, whatever stops there were, and each got
-    // what it means after those before it.
+    // The contents are those after the decided arrivals, regardless of all crashes. Each decided
+    // arrival got the reply that it has after the arrivals before it.
     ensures meant { (reads : HttpReply → Option Reply)
         → DecidedIsMeant (world_after reads events.now) }
     ensures answered { (reads : HttpReply → Option Reply)
         → DecidedIsAnswered (world_after reads events.now) }
-    // Every acknowledged arrival is among these, and a repeat gets its reply again, unless its
-    // number is released.
+    // Every acknowledged arrival was decided. A repeat gets the same reply again, unless its number
+    // is released.
     ensures acknowledged { (reads : HttpReply → Option Reply)
         → AcknowledgedIsDecided (world_after reads events.now) }
     ensures repeats { (reads : HttpReply → Option Reply)
         → RepeatsGetTheirReply (world_after reads events.now) }
-    // A packet that arrives, for the first time or again, has a released number, or is a first
-    // arrival, or gets the kept reply.
+    // Every packet, whether it arrives for the first time or again, has a released number, is a
+    // first arrival, or gets the kept reply.
     ensures in_flight { (reads : HttpReply → Option Reply) → ReadsBack reads
         → InFlight (world_after reads events.now) }
-    // An acknowledged release of a machine is kept.
+    // An acknowledged release of a machine is in force.
     ensures releases { (reads : HttpReply → Option Reply) → ReadsBack reads
         → ReleasesAreKept (world_after reads events.now) }
-    // The mark of any client, an office too, has reached each of its releases that was accepted, if
-    // whatever was decided with that release's client, number and ask was the same request.
+    // The release mark of every client, including an office, has reached each of its accepted
+    // releases, if all decided arrivals with the client, the number and the request bytes of that
+    // release were the same request.
     ensures marks { (reads : HttpReply → Option Reply)
         → MarksReachReleases (world_after reads events.now) }
-    // A reading of replies as the clauses want it there is.
+    // A reading of replies as these clauses assume it exists.
     ensures reading { IsReadable }
 {}

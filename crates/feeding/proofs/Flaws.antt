@@ -1,4 +1,4 @@
--- A line has a flaw exactly where it has no card's form.
+-- A line has a flaw if and only if it contains no card.
 use Rattle.std.proofs.Common.{◌≡◌, Bor, ◌-◌, ◌^◌, ◌==◌, ◌||◌, ℕ, Bool, true, false, List, [], ◌∷◌, length, map, drop, Option, Some, None, refl, sym, ap, ◌∙◌, inl, inr, zero, suc, arith}
 use Rattle.std.specs.Prelude.{◌↔◌, ◌&&◌, IsSome, bytes_eq, nat_le, codes, if◌then◌else◌, nat_eq, not, option_and_then, option_map}
 use Rattle.std.specs.Bool.{then_some}
@@ -27,7 +27,7 @@ map_is_some : {A B : Type 0} (f : A → B) (o : Option A) → is_some (option_ma
 map_is_some f None = refl
 map_is_some f (Some x) = refl
 
--- words behind the first
+-- the flaw of the words after the serial number, if `any` of them isn't a status word
 abbrev word_flaw : Bool → Option Flaw
 word_flaw any = if any then Some Word else None
 
@@ -49,7 +49,7 @@ by_law : (ws : List (List ℕ)) → is_some (flaw_by ws) ≡ not (is_some (card_
 by_law [] = refl
 by_law (first ∷ rest) = first_law (serial_in first) (list_any not_word rest) (all_of (map status_word rest)) (rest_law rest)
 
--- ---- words that spell nothing
+-- ---- words without a value
 
 any_more : {X : Type 0} (p q : X → Bool) (xs : List X) → ((x : X) → p x ≡ true → q x ≡ true) → list_any p xs ≡ true → list_any q xs ≡ true
 any_more p q [] more any = any
@@ -63,7 +63,7 @@ any_more p q (x ∷ xs) more any =
     later true h = refl
     later false h = h
 
--- each of these is neither a serial nor a word
+-- no word that satisfies `bad` is a serial number or a status word
 record SpellsNothing (bad : List ℕ → Bool) : Type 0 where
   serial : (w : List ℕ) → bad w ≡ true → serial_in w ≡ None
   word : (w : List ℕ) → bad w ≡ true → not_word w ≡ true
@@ -83,7 +83,7 @@ bad_words bad h (first ∷ rest) any =
       | inr there ↦ later_flaw (serial_in first) (list_any not_word rest) (any_more bad not_word rest h.word there)
     ]
 
--- a number has digits alone
+-- A word isn't a number if one of its bytes isn't a digit.
 no_number : (w : List ℕ) (is : Bool) → bytes_eq w (codes "0") ≡ is → list_all is_ascii_digit w ≡ false → (if is then Some 0 else number_in w) ≡ None
 no_number w true same not_all =
     let is : w ≡ codes "0" = (bytes_eq-Decides w (codes "0")).0 same in
@@ -97,7 +97,7 @@ no_serial w not_all = ap (option_and_then (within 0 (10 ^ 18 - 1))) (no_number w
 no_word : (w : List ℕ) → list_all is_ascii_hexdigit w ≡ false → not_word w ≡ true
 no_word w not_all = ap not (and_right (length w == 4) (list_all is_ascii_hexdigit w) not_all)
 
--- one of them fails a test that the byte fails
+-- If a word contains the byte `c` and `c` fails a test, not all bytes of the word pass it.
 one_fails : (c : ℕ) (test : ℕ → Bool) (w : List ℕ) → test c ≡ false → list_any (λ b. b == c) w ≡ true → list_all test w ≡ false
 one_fails c test [] fails any = let no : false ≡ true = any in cc
 one_fails c test (x ∷ xs) fails any =
@@ -122,7 +122,7 @@ has_cr w = list_any (λ b. b == 13) w
 cr_spells : SpellsNothing has_cr
 cr_spells = record { serial = λ w has. no_serial w (one_fails 13 is_ascii_digit w refl has); word = λ w has. no_word w (one_fails 13 is_ascii_hexdigit w refl has) }
 
--- ---- a CR of a line is in one of its words
+-- ---- the word with the CR of a line
 
 any_onto : (x : ℕ) (b : Bool) (ws : List (List ℕ)) → (x == 13) ≡ b → (b || list_any has_cr ws) ≡ true → list_any has_cr (onto_first x ws) ≡ true
 any_onto x b [] is any = first_or b (x == 13) is any
@@ -187,7 +187,7 @@ no_card (Some c) none = let never : false ≡ true = none in cc
 pub flaw_law : (line : List ℕ) → IsSome (flaw_of line) ↔ (card_of line ≡ None)
 flaw_law line = (λ has. no_card (card_of line) (sym (line_law line) ∙ has), λ none. line_law line ∙ ap (λ o. not (is_some o)) none)
 
--- ---- words behind references
+-- ---- words by reference
 
 pub any_now : (test : List ℕ → Bool) (ws : List (Bor (List ℕ))) → list_any (λ (w : Bor (List ℕ)). test w.now) ws ≡ list_any test (map (λ (w : Bor (List ℕ)). w.now) ws)
 any_now test [] = refl

@@ -1,4 +1,5 @@
--- Each try that doesn't end a feed asks a later number, or is one more in a row.
+-- Each try that doesn't end the feed leads to a later request number, or increases the number of
+-- consecutive tries that changed nothing.
 use Rattle.std.proofs.Common.{◌≡◌, ◌≤◌, ◌<◌, ◌==◌, ℕ, ◌+◌, ◌*◌, ◌-◌, false, List, [], ◌∷◌, Option, Some, None, Result, Ok, Err, refl, sym, ap, subst, ◌∙◌, arith}
 use Rattle.std.specs.Prelude.{nat_lt, if◌then◌else◌}
 use Rattle.std.proofs.lemmas.Bool.{cond_both, eqb-true, eqb-false}
@@ -15,7 +16,7 @@ use Rattle.feeder.specs.Table.{Act, Apply, Done, Eject, FeederState, Makes, Move
 use Rattle.feeding.specs.Cards.{Card, card_of, end_line}
 use Rattle.feeding.specs.Feeds.{Feed, acts, by_reply, drawn, draws, goes_on, hears, is_asked, prints, put_in, settled, tried, worded}
 
--- a later feeder of one boot
+-- feeder `g` has the boot number of feeder `f`, and the same place or a later one
 pub record Later (f g : FeederState) : Type 0 where
   pub boot : g.boot ≡ f.boot
   pub place : f.place ≤ g.place
@@ -47,7 +48,7 @@ insert_later f (Asks call) batch blank = same f
 insert_later f (HasCommand s k) batch blank = same f
 insert_later f Stale batch blank = same f
 
--- with as many tries
+-- feed `g` has the feeder of feed `f` or a later one, and the same number of tries
 pub record Follows (f g : Feed) : Type 0 where
   pub feeder : Later f.feeder g.feeder
   pub tries : g.tries ≡ f.tries
@@ -92,9 +93,9 @@ by_goes f n (Some r) =
     let d = after_reply f.feeder n r in let g = record f { feeder = d.0 } in let is = acts_goes g d.1 in
     goes_then f g (acts g d.1) (record { feeder = heard_later f.feeder (asked f.feeder) n r; tries = refl }) is
 
--- ---- what is left to do
+-- ---- the remaining tries
 
--- asked is no number from `most` on
+-- a measure of the remaining tries, for request numbers below `most`
 abbrev left_by : ℕ → Feed → Option (ℕ × Call) → ℕ
 left_by most f None = 0
 left_by most f (Some ask) = (most - ask.0) * 11 + (11 - f.tries)
@@ -108,7 +109,7 @@ asked_number f (Asks call) ask is = sym (ap (λ (a : ℕ × Call). a.0) (same_So
 asked_number f (HasCommand s k) ask is = cc
 asked_number f Stale ask is = cc
 
--- after a try: no more is asked, the same is asked again, or a later number
+-- A try decreases the measure. After it no request, the same request or a later request is pending.
 left_after : (most : ℕ) (f g : Feed) (n : ℕ) (next : Option (ℕ × Call)) → asked g.feeder ≡ next → n ≡ number_at f.feeder.boot f.feeder.place → Follows f g → f.tries < 10 → n < most
     → left_by most (record g { tries = if is_asked n next then g.tries + 1 else 0 }) next < (most - n) * 11 + (11 - f.tries)
 left_after most f g n None is here goes few fits = omega (arith, few)
@@ -126,11 +127,11 @@ tried_left most f ask o is few fits =
     left_after most f (settled g) ask.0 (asked (settled g).feeder) refl (asked_number f.feeder f.feeder.stand ask is)
     (let all = goes_then f0 g (settled g) (by_goes f0 ask.0 o) (settled_goes g g.feeder.stand) in record { feeder = all.feeder; tries = all.tries }) few fits
 
--- less is left after each try
+-- Each try decreases the measure of the remaining tries.
 pub less_left : (most : ℕ) (f : Feed) (ask : ℕ × Call) (o : Option Reply) → asked f.feeder ≡ Some ask → f.tries < 10 → ask.0 < most → left_of most (hears f o) < left_of most f
 less_left most f ask o is few fits = subst (λ a. left_of most (tried f a o) < left_by most f a) (sym is) (tried_left most f ask o is few fits)
 
--- ten tries that change nothing are the most
+-- At most ten consecutive tries change nothing.
 
 tried_few : (f : Feed) (ask : Option (ℕ × Call)) (o : Option Reply) → f.tries < 10 → (tried f ask o).tries ≤ 10
 tried_few f None o few = omega (arith, few)
@@ -143,6 +144,6 @@ tried_few f (Some ask) o few =
 pub hears_few : (f : Feed) (o : Option Reply) → f.tries < 10 → (hears f o).tries ≤ 10
 hears_few f o few = tried_few f (asked f.feeder) o few
 
--- before a try is counted
+-- The number of tries is unchanged until the new try is counted.
 pub same_tries : (f t s : Feed) (n : ℕ) (o : Option Reply) → t ≡ by_reply f n o → s ≡ settled t → s.tries ≡ f.tries
 same_tries f t s n o took settles = ap (λ (g : Feed). g.tries) settles ∙ (settled_goes t t.feeder.stand).tries ∙ ap (λ (g : Feed). g.tries) took ∙ (by_goes f n o).tries

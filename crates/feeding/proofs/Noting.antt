@@ -1,4 +1,4 @@
--- Event lines that are written one after the other.
+-- Event lines that are written one after another.
 use Rattle.std.proofs.Common.{◌≡◌, ◌≢◌, ◌<◌, ◌+◌, ◌==◌, true, false, ℕ, Bool, Bor, List, [], ◌∷◌, ◌++◌, length, map, take, drop, get_or, append_assoc, min, Option, Some, None, Result, Ok, Err, IfOk, refl, sym, ap, subst, ◌∙◌, append-nil, arith, inl, inr, ◌≤◌}
 use Rattle.std.specs.Prelude.{◌↔◌, IfErr, IsTrue, if◌then◌else◌, nat_lt, option_map, position, unwrap_or}
 use Rattle.std.specs.List.{before_first, position_or_len}
@@ -27,9 +27,10 @@ use Rattle.feeding.specs.Feeds.{Feed, by_reply, hears}
 use Rattle.feeding.specs.Views.{IsRejected, came_in}
 use Rattle.feeding.proofs.Draws.{next_line}
 
--- ---- a log
+-- ---- event logs
 
--- nothing was written
+-- An unchanged log satisfies `IsNoted` for any lines, because the empty text is a prefix of each
+-- line.
 pub lost : {E : Type 0} (contents : E → Option (List ℕ)) (old new : EventLog E) (texts : List (List ℕ)) → new ≡ old → IsNoted contents old new texts
 lost contents old new texts same =
     subst (λ n. IsNoted contents old n texts) (sym same) (refl, lost-all old.level (contents old.writer) (contents old.writer) texts (Keeps-refl (contents old.writer)))
@@ -40,40 +41,40 @@ noted_then contents a b c xs ys (same, first) (still, rest) = (
   both-all a.level (contents a.writer) (contents b.writer) (contents c.writer) xs ys first (subst (λ l. NotesAll l (contents b.writer) (contents c.writer) ys) same rest),
 )
 
--- where none are written, whichever these are
+-- At level `Off` nothing is written, so `IsNoted` doesn't depend on the lines.
 pub noted_off : {E : Type 0} (contents : E → Option (List ℕ)) (old new : EventLog E) (xs ys : List (List ℕ)) → old.level ≡ Off → IsNoted contents old new xs → IsNoted contents old new ys
 noted_off contents old new xs ys off (same, notes) =
     let a = contents old.writer in
     let b = contents new.writer in
     (same, lost-all old.level a b ys (off-all a b xs (subst (λ l. NotesAll l a b xs) off notes)))
 
--- a line that was made, or for which memory was refused
+-- `IsNoted` is true of the line `text`, even if an allocation failed while the line was built.
 pub noted_line : {E F : Type 0} (contents : E → Option (List ℕ)) (old new : EventLog E) (made : Result EventLine F) (text : List ℕ) → IfOk made (λ l. text_of l ≡ text) → new.level ≡ old.level
     → ((t : List ℕ) → IfOk made (λ l. text_of l ≡ t) → NotesAll old.level (contents old.writer) (contents new.writer) (t ∷ [])) → IsNoted contents old new (text ∷ [])
 noted_line contents old new made text is same noted = (same, noted text is)
 
--- of lines that begin so
+-- If `IsNoted` is true of the first lines, it is true of all lines.
 pub noted_front : {E : Type 0} (contents : E → Option (List ℕ)) (old new : EventLog E) (xs ys all : List (List ℕ)) → IsNoted contents old new xs → all ≡ xs ++ ys → IsNoted contents old new all
 noted_front contents old new xs ys all noted is = subst (IsNoted contents old new) (sym is) (noted_then contents old new new xs ys noted (lost contents new new ys refl))
 
 pub noted_kept : {E : Type 0} (contents : E → Option (List ℕ)) (a b c : EventLog E) (xs : List (List ℕ)) → IsNoted contents a b xs → IsNoted contents b c [] → IsNoted contents a c xs
 noted_kept contents a b c xs first kept = subst (IsNoted contents a c) (append-nil xs) (noted_then contents a b c xs [] first kept)
 
--- ---- a reply's lines
+-- ---- the lines of a reply
 
--- it puts a card out as bad, and is no refusal
+-- If the reply isn't a refusal, its only line states that the session was spoiled.
 pub noted_spoiled : {E : Type 0} (contents : E → Option (List ℕ)) (old new : EventLog E) (serial number : ℕ) (found o : Option (ℕ × List ℕ)) → found ≡ None → found ≡ o
     → IsNoted contents old new (spoiled_line serial number ∷ []) → IsNoted contents old new (refusal_lines serial number o)
 noted_spoiled contents old new serial number found o is same noted = subst (λ x. IsNoted contents old new (refusal_lines serial number x)) (sym is ∙ same) noted
 
--- a refusal, with whether its number is kept with another ask
+-- A refusal has its own line. If its code is 72, the line of a used request number follows.
 pub noted_refusal : {E : Type 0} (contents : E → Option (List ℕ)) (old new : EventLog E) (serial number code : ℕ) (name : List ℕ) (o : Option (ℕ × List ℕ)) (used : Bool) → Some (code, name) ≡ o → (code == 72) ≡ used
     → IsNoted contents old new (refused_line serial number code name ∷ (if used then used_line number ∷ [] else [])) → IsNoted contents old new (refusal_lines serial number o)
 noted_refusal contents old new serial number code name o used same is noted =
     subst (λ x. IsNoted contents old new (refusal_lines serial number x)) same
     (subst (λ b. IsNoted contents old new (refused_line serial number code name ∷ (if b then used_line number ∷ [] else []))) (sym is) noted)
 
--- ---- a reply's first line
+-- ---- the first line of a response
 
 take_both : (m n : ℕ) (xs : List ℕ) → take (min n m) xs ≡ take m (take n xs)
 take_both m n xs =
@@ -96,7 +97,7 @@ line_taken p bytes o most is =
     (λ within. take_both most at bytes)
     (λ behind. take_both most (length bytes) bytes ∙ ap (take most) (take_all (length bytes) bytes (omega arith) ∙ sym (take_all at bytes (omega (arith, ltb-false at (length bytes) behind)))))
 
--- ---- lines of cards that can't be put in
+-- ---- the lines of cards that can't be inserted
 
 abbrev pub exhausted_of : List (Bor (List ℕ)) → List (List ℕ)
 exhausted_of ls = map (λ (c : Card). exhausted_line c.serial) (cards_in (map (λ (l : Bor (List ℕ)). l.now) ls))
@@ -126,7 +127,7 @@ again_some number tries came some = sym (ap (λ b. if b then [] else again_line 
 pub again_none : (number tries : ℕ) (came : Option (List ℕ)) → tries ≤ 0 → [] ≡ again_lines number tries came
 again_none number tries came none = let zero : tries ≡ 0 = omega arith in sym (ap (λ b. if b then [] else again_line number tries came ∷ []) (eq-eqb tries 0 zero))
 
--- ---- a try, whose bytes were kept where any lines are written
+-- ---- a try, whose received bytes are kept only if event lines are written
 
 level_off : (level : Level) (on : Bool) → IsTrue on ↔ (level ≢ Off) → on ≡ false → level ≡ Off
 level_off Off on is off = refl
@@ -147,7 +148,7 @@ kept_bytes : (on : Bool) (o : Option (Vec ℕ Global)) → option_map (λ (v : V
 kept_bytes true o = refl
 kept_bytes false o = refl
 
--- as a feed went on after it
+-- The lines that were written after a try are the lines of this try (`lines_under`).
 pub noted_hear : {E : Type 0} (contents : E → Option (List ℕ)) (old new : EventLog E) (f h : Feed) (number : ℕ) (r : Response) (on : Bool) (kept : Option (Vec ℕ Global)) (came : Option (List ℕ)) (reply : Option Reply)
     (out : Rejected) → IsTrue on ↔ (old.level ≢ Off) → kept ≡ (if on then r.came else None) → came ≡ option_map (λ (v : Vec ℕ Global). v.items) kept → reply ≡ r.reply → IsRejected f number r.reply out → h ≡ hears f r.reply
     → IsNoted contents old new (lines_with f.card.serial number came reply out.card (cards_in (map (λ (l : Bor (List ℕ)). l.now) out.lines.now)) h.tries) → IsNoted contents old new (lines_under f number (came_in r) r.reply)

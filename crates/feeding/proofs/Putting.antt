@@ -1,4 +1,4 @@
--- The cards that can't be put in since the boot has no numbers left.
+-- The cards that can't be inserted because the boot has too few numbers left.
 use Rattle.std.proofs.Common.{◌≡◌, ◌+◌, ℕ, true, false, List, [], ◌∷◌, Option, Some, None, Result, Ok, Err, refl, sym, ap, subst, ◌∙◌}
 use Rattle.std.specs.Prelude.{if◌then◌else◌, nat_lt}
 use Rattle.std.proofs.lemmas.Bool.{cond_both}
@@ -14,7 +14,7 @@ use Rattle.feeding.specs.Cards.{Card, card_of, end_line, next_word}
 use Rattle.feeding.specs.Events.{card_before, cards_in, left_out, without_numbers}
 use Rattle.feeding.specs.Feeds.{Feed, acts_by, by_reply, drawn, draws, goes_on, prints, put_in, puts_out, settled, worded}
 
--- no numbers are left
+-- the boot of feeder `g` has too few numbers left for another card
 abbrev IsUsedUp : FeederState → Type 0
 IsUsedUp g = nat_lt 8000000 g.place ≡ true
 
@@ -30,7 +30,7 @@ inserted_up g batch blank idle up = inserted_idle g batch blank idle ∙ ap (λ 
 inserted_in : (g : FeederState) (batch : List ℕ) (blank : ℕ) → g.stand ≡ Idle → nat_lt 8000000 g.place ≡ false → after_insert g batch blank ≡ (moved g (Makes (Job (request.Open batch blank))), Ok tt)
 inserted_in g batch blank idle more = inserted_idle g batch blank idle ∙ ap (λ b. if b then (g, Err Exhausted) else (moved g (Makes (Job (request.Open batch blank))), Ok tt)) more
 
--- ---- then no card changes the feeder
+-- ---- a boot with too few numbers
 
 draws_up : (f : Feed) (ls : List (List ℕ)) → f.feeder.stand ≡ Idle → IsUsedUp f.feeder → (draws f ls).feeder ≡ f.feeder
 draws_up f [] idle up = refl
@@ -42,7 +42,7 @@ draws_up f (l ∷ ls) idle up = by_card (card_of l)
     by_card None rest = refl
     by_card (Some c) rest = subst (λ (d : Inserted). (put_in f c ls (λ g. draws g ls) d.0 d.1).feeder ≡ f.feeder) (sym (inserted_up f.feeder f.batch c.serial idle up)) (rest c)
 
--- ---- a card is in after it where one could be put in
+-- ---- a boot with enough numbers
 
 first_in : (f : Feed) (l : List ℕ) (ls : List (List ℕ)) (o : Option Card) (more : List Card) → f.feeder.stand ≡ Idle → nat_lt 8000000 f.feeder.place ≡ false → (drawn f l ls (λ g. draws g ls) o).feeder.stand ≡ Idle
     → card_before o more ≡ []
@@ -63,7 +63,7 @@ idle_by f (Asks call) is after = let never : Asks call ≡ Idle = sym is ∙ aft
 idle_by f (HasCommand s k) is after = let never : HasCommand s k ≡ Idle = sym is ∙ after in cc
 idle_by f Stale is after = let never : Stale ≡ Idle = sym is ∙ after in cc
 
--- no card is in after it: none of those that were left could be put in
+-- If the feeder is still idle after the remaining lines, none of their cards could be inserted.
 pub idle_after : (f : Feed) → (settled f).feeder.stand ≡ Idle → cards_in f.left ≡ without_numbers f
 idle_after f after = idle_by f f.feeder.stand refl after
 
@@ -78,7 +78,7 @@ other_by f Stale is other = refl
 pub other_after : (f : Feed) → ((settled f).feeder.stand ≡ Idle → ⊥) → [] ≡ without_numbers f
 other_after f other = other_by f f.feeder.stand refl other
 
--- ---- whatever was printed before
+-- ---- independence of the output
 
 worded_text : (x y : Feed) (act : Act) → y ≡ record x { text = y.text } → worded y act ≡ record (worded x act) { text = (worded y act).text }
 worded_text x y (Eject good) same = ap (λ (z : Feed). record z { text = (puts_out y good).text }) same

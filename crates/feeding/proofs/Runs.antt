@@ -1,4 +1,4 @@
--- One more try.
+-- A feed after another try.
 use Rattle.std.proofs.Common.{◌≡◌, ℕ, List, [], ◌∷◌, ◌++◌, map, Option, Some, None, Result, Ok, Err, IfOk, IfSome, refl, sym, ap, subst, ◌∙◌, append_assoc, append-nil}
 use Rattle.std.specs.Prelude.{option_map}
 use Rattle.std.specs.Io.KnownBytes.{Appends}
@@ -29,7 +29,7 @@ printed_more f [] h = append-nil (hears f h.reply).text
 printed_more f (x ∷ hs) h =
     ap (λ t. (hears f x.reply).text ++ t) (printed_more (hears f x.reply) hs h) ∙ sym (append_assoc (hears f x.reply).text (printed (hears f x.reply) hs) _)
 
--- its event lines
+-- The event lines of the new try follow those of the earlier tries.
 pub texts_more : (f : Feed) (hs : List Heard) (h : Heard) → event_texts f (hs ++ h ∷ []) ≡ event_texts f hs ++ lines_of_try (feed_after f hs) (asked (feed_after f hs).feeder) h
 texts_more f [] h = append-nil (lines_of_try f (asked f.feeder) h)
 texts_more f (x ∷ hs) h =
@@ -44,7 +44,7 @@ logs_more None b c hs h is more = more ∙ ap (option_map (λ (l : List Try). l 
 logs_more (Some l) b c hs h is more =
     more ∙ ap (option_map (λ (l : List Try). l ++ h.one ∷ [])) is ∙ ap Some (append_assoc l (map (λ (x : Heard). x.one) hs) (h.one ∷ []) ∙ ap (λ t. l ++ t) (sym (map_push (λ (x : Heard). x.one) hs h)))
 
--- ---- with what is known so far
+-- ---- a known feed after the earlier tries
 
 pub after_on : (f0 f : Feed) (hs : List Heard) (h : Heard) → feed_after f0 hs ≡ f → feed_after f0 (hs ++ h ∷ []) ≡ hears f h.reply
 after_on f0 f hs h at = after_more f0 hs h ∙ ap (λ g. hears g h.reply) at
@@ -67,11 +67,12 @@ pub texts_on : (f0 f : Feed) (hs : List Heard) (h : Heard) (number : ℕ) (call 
     → event_texts f0 (hs ++ h ∷ []) ≡ event_texts f0 hs ++ lines_under f number h.one.came h.reply
 texts_on f0 f hs h number call at asks = texts_more f0 hs h ∙ ap (λ g. event_texts f0 hs ++ lines_of_try g (asked g.feeder) h) at ∙ ap (λ a. event_texts f0 hs ++ lines_of_try f a h) asks
 
--- where a call is asked
+-- If request `number` is pending, `hears` handles the reply, takes the next card and counts the
+-- try.
 pub hears_is : (f : Feed) (number : ℕ) (o : Option Reply) → AsksUnder number f → hears f o ≡ counted number (settled (by_reply (record f { text = [] }) number o))
 hears_is f number o (call, is) = ap (λ a. tried f a o) is
 
--- ---- what comes back
+-- ---- the received bytes
 
 pub reply_read : {E : Type 0} (r : Result (Option Reply) E) (bytes : List ℕ) → IfOk r (λ found. IfSome found (λ q. IsReply q × (bytes ≡ reply_bytes q)))
     → ((q : Reply) → IsReply q → bytes ≡ reply_bytes q → IfOk r (λ found. found ≡ Some q)) → IfOk r (λ found. IsRead bytes found)

@@ -1,4 +1,4 @@
--- Where no command waits for its card.
+-- After each try, no command is waiting for its card.
 use Rattle.std.proofs.Common.{◌≡◌, ◌+◌, ℕ, false, List, [], ◌∷◌, Option, Some, None, Result, Ok, Err, refl, sym, subst}
 use Rattle.std.specs.Prelude.{nat_le, nat_lt, ⊤}
 use Rattle.std.proofs.lemmas.Bool.{cond_both}
@@ -27,7 +27,7 @@ QuietMove Stays = ⊤
 QuietMove (Stands stand) = NoCommand stand
 QuietMove (Makes call) = ⊤
 
--- a command alone leads to where one waits
+-- only a row with the action `Apply` leads to a state with a command
 abbrev QuietBy : Move → Act → Type 0
 QuietBy move (Apply command) = ⊤
 QuietBy move (Eject good) = QuietMove move
@@ -71,7 +71,7 @@ move_quiet f Stays was quiet = was
 move_quiet f (Stands stand) was quiet = quiet
 move_quiet f (Makes call) was quiet = tt
 
--- a card's status word
+-- After a status word of the card, no command is waiting.
 word_quiet : (f : FeederState) (stand : Stand) (sw : ℕ) → f.stand ≡ stand → NoCommand (moved f (card_row f.place stand sw).move).stand
 word_quiet f Idle sw is = subst NoCommand (sym is) tt
 word_quiet f (Asks call) sw is = subst NoCommand (sym is) tt
@@ -141,6 +141,6 @@ tried_settled f None o is = is
 tried_settled f (Some ask) o is =
     let g = by_reply (record f { text = [] }) ask.0 o in goes_settled g g.feeder.stand refl (by_quiet (record f { text = [] }) ask.0 o (no_command f.left f.feeder.stand is))
 
--- after each try
+-- Each try keeps `IsSettled` true.
 pub hears_settled : (f : Feed) (o : Option Reply) → IsSettled f → IsSettled (hears f o)
 hears_settled f o is = tried_settled f (asked f.feeder) o is

@@ -1,4 +1,4 @@
--- A whole step: a try, and what is printed after it.
+-- A try together with its output and its event lines.
 use Rattle.std.proofs.Common.{◌≡◌, ◌≤◌, ◌<◌, ℕ, List, [], ◌∷◌, ◌++◌, Option, Some, None, Result, Ok, Err, refl, sym, ap, subst, ◌∙◌, append-nil, lit<}
 use Rattle.std.specs.Prelude.{option_map, unwrap_or}
 use Rattle.std.specs.Io.KnownBytes.{Appends}
@@ -23,11 +23,11 @@ use Rattle.feeding.proofs.Noting.{lost, noted_kept, noted_then}
 use Rattle.feeding.proofs.Runs.{after_on, logs_more, text_begun, text_on, texts_on, tries_on}
 use Rattle.feeding.proofs.Stands.{hears_settled}
 
--- what was sent under a number, and what came
+-- the try that sends the request `call` under `number` and gets the response `r`
 abbrev pub heard_of : List ℕ → ℕ → Call → Response → Heard
 heard_of machine number call r = record { one = try_of (sending_of machine number call) r.came; reply = r.reply }
 
--- one more was sent
+-- one message was exchanged: the request `call` under `number`, with the response `r`
 abbrev pub IsOne : List ℕ → ℕ → Call → Response → Option (List Try) → Option (List Try) → Type 0
 IsOne machine number call r before after = IsHeard (came_in r) r.reply × (after ≡ option_map (λ l. l ++ try_of (sending_of machine number call) r.came ∷ []) before)
 
@@ -37,7 +37,8 @@ is_try f machine number call r same asks few read =
     record { sent = subst (λ o. IsSent f.feeder.machine o (sending_of machine number call)) (sym asks) (ap (λ m. sending_of m number call) same); read = read; few = few }
 
 module _ {E : Type 0} (contents : E → Option (List ℕ)) where
-  -- the tries up to here
+  -- some tries led from the feed `first` to the feed `f`; their messages were exchanged, and their
+  -- output and event lines were written
   abbrev pub SoFar : Feed → Feed → Option (List Try) → Option (List Try) → Option (List ℕ) → Option (List ℕ) → EventLog E → EventLog E → Type 0
   SoFar first f log_before log_after before after old new =
       (hs : List Heard) × AreTries first hs × (feed_after first hs ≡ f) × Logs log_before log_after hs × Appends before after (printed first hs) × IsNoted contents old new (event_texts first hs)
@@ -56,13 +57,13 @@ module _ {E : Type 0} (contents : E → Option (List ℕ)) where
         subst (IsNoted contents ea ec) (sym (texts_on first f hs h number call at asks)) (noted_then contents ea eb ec (event_texts first hs) (lines_under f number (came_in r) r.reply) noted more),
       )
 
-  -- how it goes on where nothing is noted at its end
+  -- If the end of the feed has no event line, the lines of its tries are all of its lines.
   ended : (first : Feed) (hs : List Heard) (la lc : Option (List Try)) (a c : Option (List ℕ)) (ea ec : EventLog E) (r : Result (Unit {0}) FeedStop) → Goes first hs la lc a c r → end_texts (feed_after first hs) r ≡ []
       → IsNoted contents ea ec (event_texts first hs) → (hs : List Heard) × GoesWithEvents contents first hs la lc a c ea ec r
   ended first hs la lc a c ea ec r goes none noted =
       (hs, (goes, subst (IsNoted contents ea ec) (sym (append-nil (event_texts first hs)) ∙ sym (ap (λ texts. event_texts first hs ++ texts) none)) noted))
 
-  -- the writer failed, or memory was refused
+  -- The feed ends because the writer or an allocation failed.
   pub goes_end : (first f g : Feed) (la lb lc : Option (List Try)) (a b c : Option (List ℕ)) (ea eb ec : EventLog E) (machine : List ℕ) (number : ℕ) (call : Call) (r : Response) (why : FeedStop)
       (result : Result (Unit {0}) FeedStop) → SoFar first f la lb a b ea eb → machine ≡ f.feeder.machine → asked f.feeder ≡ Some (number, call) → f.tries < 10 → IsOne machine number call r lb lc
       → IsPrinted (hears f r.reply) g b c (Err why) → IsNotedOf contents eb ec (lines_under f number (came_in r) r.reply) (Err why) → result ≡ Err why
@@ -85,7 +86,7 @@ module _ {E : Type 0} (contents : E → Option (List ℕ)) where
   goes_end first f g la lb lc a b c ea eb ec machine number call r stop.NoReply result so_far same asks few one prints more is = absurd prints
   goes_end first f g la lb lc a b c ea eb ec machine number call r stop.ReadFailed result so_far same asks few one prints more is = absurd prints
 
-  -- nothing is asked any more
+  -- The event lines of the end follow those of the tries.
   end_noted : (first f : Feed) (hs : List Heard) (ea eb ec : EventLog E) (r : Result (Unit {0}) FeedStop) → feed_after first hs ≡ f → IsNoted contents ea eb (event_texts first hs) → IsNoted contents eb ec (end_texts f r)
       → IsNoted contents ea ec (event_texts first hs ++ end_texts (feed_after first hs) r)
   end_noted first f hs ea eb ec r at noted more =
@@ -101,13 +102,13 @@ module _ {E : Type 0} (contents : E → Option (List ℕ)) where
       (hs, (record { tries = all; exchanged = logs; ends = subst (λ g. EndsBy g (Err stop.Stale)) (sym at) is; written = wrote }, end_noted first f hs ea eb ec (Err stop.Stale) at noted more))
   goes_ended first f la lb a b ea eb ec _ so_far is more = absurd is
 
--- nothing was asked where memory is refused before
+-- If an allocation fails before the first try, nothing was sent or printed.
 pub no_memory : {E : Type 0} (contents : E → Option (List ℕ)) (f : Feed) (log : Option (List Try)) (a : Option (List ℕ)) (e : EventLog E) → f.tries ≡ 0
     → (hs : List Heard) × GoesWithEvents contents f hs log log a a e e (Err stop.Memory)
 no_memory contents f log a e new =
     ([], (record { tries = tt; exchanged = tt; ends = subst (λ n. n < 10) (sym new) (lit< tt); written = Appends-nil a }, lost contents e e [] refl))
 
--- ---- what the loop keeps
+-- ---- the loop invariants
 
 pub still_few : (f g : Feed) (b c : Option (List ℕ)) (reply : Option Reply) → f.tries < 10 → IsPrinted (hears f reply) g b c (Ok tt) → g.tries ≤ 10
 still_few f g b c reply few prints = subst (λ x. x.tries ≤ 10) (sym prints.0) (hears_few f reply few)
@@ -120,7 +121,7 @@ pub still_less : (most : ℕ) (f g : Feed) (b c : Option (List ℕ)) (number : �
 still_less most f g b c number call reply asks few fits prints =
     subst (λ x. left_of most x < left_of most f) (sym prints.0) (less_left most f (number, call) reply asks few fits)
 
--- ---- the lines could not be read
+-- ---- lines that can't be read
 
 agrees_some : (known : Option (List ℕ)) → Agrees known (unwrap_or known [])
 agrees_some None = tt

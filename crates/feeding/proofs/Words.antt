@@ -1,4 +1,4 @@
--- Words of a line, and the texts of lines.
+-- The words of a line, and the text of an output line.
 use Rattle.std.proofs.Common.{◌≡◌, ◌≤◌, ◌<◌, ◌^◌, ◌-◌, ◌+◌, ℕ, List, [], ◌∷◌, ◌++◌, length, map, drop, get_or, Bor, Option, Some, None, sym, refl, ap, ◌∙◌, append_assoc, append-nil}
 use Rattle.std.specs.Prelude.{option_map, option_and_then}
 use Rattle.std.proofs.lemmas.List.{drop_all, drop_more}
@@ -12,7 +12,7 @@ word_bytes t = t.now
 abbrev pub spelled : Bor (List ℕ) → Option ℕ
 spelled t = status_word t.now
 
--- words that were read, and then the rest
+-- the values `ws` followed by the remaining values, if none of those is missing
 abbrev pub with_rest : List ℕ → Option (List ℕ) → Option (List ℕ)
 with_rest ws o = option_map (λ rest. ws ++ rest) o
 
@@ -43,18 +43,18 @@ pub words_all : (all : Option (List ℕ)) (ts : List (Bor (List ℕ))) (i : ℕ)
 words_all all ts i ws end so_far =
     so_far ∙ ap (λ xs. with_rest ws (all_of (map spelled xs))) (drop_all i ts end) ∙ ap Some (append-nil ws)
 
--- ---- a line that is put together
+-- ---- the text of a line
 
 pub joined : (a b first second third : List ℕ) → first ≡ a → second ≡ first ++ 32 ∷ [] → third ≡ second ++ b → third ≡ a ++ 32 ∷ b
 joined a b first second third one two three = three ∙ ap (λ t. t ++ b) (two ∙ ap (λ t. t ++ 32 ∷ []) one) ∙ append_assoc a (32 ∷ []) b
 
--- ---- a line's card
+-- ---- the card of a line
 
 fused : (ts : List (Bor (List ℕ))) → all_of (map status_word (map word_bytes ts)) ≡ all_of (map spelled ts)
 fused [] = refl
 fused (t ∷ ts) = ap (λ o. option_and_then (λ x. option_map (λ xs. x ∷ xs) o) (spelled t)) (fused ts)
 
--- by its first word, and by those behind
+-- the card with this serial number and these status words, if both were parsed
 abbrev pub card_with : Option ℕ → Option (List ℕ) → Option Card
 card_with serial ws = option_and_then (λ s. option_map (λ xs. new_card xs s) ws) serial
 
@@ -63,7 +63,7 @@ pub card_read : (text : List ℕ) (found : List (Bor (List ℕ))) (first : Bor (
 card_read text found first rest same is =
     ap card_by (sym same) ∙ ap (λ ws. card_by (map word_bytes ws)) is ∙ ap (card_with (number_within 0 (10 ^ 18 - 1) first.now)) (fused rest)
 
--- the words that were spelled make the card
+-- If the serial number was parsed, the parsed status words determine the card of the line.
 pub card_made : (text : List ℕ) (found : List (Bor (List ℕ))) (first : Bor (List ℕ)) (rest : List (Bor (List ℕ))) (serial : ℕ) (ws : Option (List ℕ)) → map word_bytes found ≡ words text
     → found ≡ first ∷ rest → number_within 0 (10 ^ 18 - 1) first.now ≡ Some serial → ws ≡ all_of (map spelled rest) → option_map (λ xs. new_card xs serial) ws ≡ card_of text
 card_made text found first rest serial ws same is number spells =

@@ -1,5 +1,4 @@
--- A feed (this project's profile): a machine that is given one card after the other, what its
--- feeder's acts do, and what is printed of them.
+-- A feed (this project's profile): its state, the effect of the feeder's actions, and the output.
 use Rattle.std.specs.Prelude.{ℕ, ◌+◌, ◌==◌, Bool, false, if◌then◌else◌, List, [], ◌∷◌, ◌++◌, Option, Some, None, Result, Ok, Err}
 use Rattle.job_facts.specs.declared.reply.Reply.{Reply}
 use Rattle.job_facts.specs.declared.request.Call.{Call}
@@ -13,22 +12,22 @@ use Rattle.feeding.specs.Cards.{Card, applied_line, card_of, end_line, gives, ne
 pub record Feed : Type 0 where
   pub feeder : FeederState
   pub batch : List ℕ
-  -- the card that was put in last
+  -- the last inserted card
   pub card : Card
-  -- the lines of the cards that were not put in yet
+  -- the lines of the cards that weren't inserted yet
   pub left : List (List ℕ)
-  -- how many lines were taken before these
+  -- the number of lines taken before these
   pub taken : ℕ
-  -- how many tries in a row changed nothing
+  -- the number of consecutive tries that changed nothing
   pub tries : ℕ
-  -- what is printed after the last try
+  -- the output of the last try
   pub text : List ℕ
 
--- no card was put in yet
+-- a feed at its start, before a card is inserted
 abbrev pub at_first : List ℕ → ℕ → List ℕ → List ℕ → Feed
 at_first machine boot batch raw = record { feeder = started machine boot; batch = batch; card = new_card [] 0; left = lines raw; taken = 0; tries = 0; text = [] }
 
--- ---- acts
+-- ---- actions
 
 abbrev pub prints : Feed → List ℕ → Feed
 prints f text = record f { text = f.text ++ text }
@@ -36,14 +35,14 @@ prints f text = record f { text = f.text ++ text }
 abbrev pub puts_out : Feed → Bool → Feed
 puts_out f good = prints f (end_line f.card.serial good)
 
--- once the card has given a word
+-- the action after the card returned a status word
 abbrev pub worded : Feed → Act → Feed
 worded f (Eject good) = puts_out f good
 worded f (Apply command) = f
 worded f Send = f
 worded f Wait = f
 
--- the card receives a command, and gives its next status word
+-- the card receives a command and returns its next status word
 abbrev pub applies : Feed → List ℕ → Feed
 applies f command =
     let sw = next_word f.card in
@@ -58,7 +57,7 @@ acts f Wait = f
 
 -- ---- the next card
 
--- a card is put in, or it is put out as bad where that is refused, and the next one comes
+-- card `c` is inserted; if the feeder refuses that, the card is rejected and the next one follows
 abbrev pub put_in : Feed → Card → List (List ℕ) → (Feed → Feed) → FeederState → Result (Unit {0}) InsertFault → Feed
 put_in f c ls next g (Ok done) = record f { feeder = g; card = c; left = ls; taken = f.taken + 1 }
 put_in f c ls next g (Err why) = next (record (prints f (end_line c.serial false)) { feeder = g; left = ls; taken = f.taken + 1 })
@@ -67,12 +66,12 @@ abbrev pub drawn : Feed → List ℕ → List (List ℕ) → (Feed → Feed) →
 drawn f l ls next None = record f { left = l ∷ ls }
 drawn f l ls next (Some c) = let d = after_insert f.feeder f.batch c.serial in put_in f c ls next d.0 d.1
 
--- by these lines, up to one of another form
+-- a card is taken from these lines, which may be rejected up to a malformed line
 abbrev pub draws : Feed → List (List ℕ) → Feed
 draws f [] = record f { left = [] }
 draws f (l ∷ ls) = drawn f l ls (λ g. draws g ls) (card_of l)
 
--- where none is in
+-- the next card is taken if the feeder is idle
 abbrev pub goes_on : Feed → Stand → Feed
 goes_on f Idle = draws f f.left
 goes_on f (Asks call) = f
@@ -85,7 +84,7 @@ abbrev pub is_asked : ℕ → Option (ℕ × Call) → Bool
 is_asked number None = false
 is_asked number (Some ask) = number == ask.0
 
--- it changed nothing where the same number is asked still
+-- a try had no effect if the same request number is still pending
 abbrev pub counted : ℕ → Feed → Feed
 counted number f = record f { tries = if is_asked number (asked f.feeder) then f.tries + 1 else 0 }
 
@@ -103,6 +102,6 @@ abbrev pub tried : Feed → Option (ℕ × Call) → Option Reply → Feed
 tried f None reply = f
 tried f (Some ask) reply = counted ask.0 (settled (by_reply (record f { text = [] }) ask.0 reply))
 
--- after a try that brought this reply, or none
+-- the feed after a try, which brought `reply` if it brought one
 abbrev pub hears : Feed → Option Reply → Feed
 hears f reply = tried f (asked f.feeder) reply

@@ -1,4 +1,4 @@
--- How a feed goes on and ends, by the replies that come.
+-- The course and the end of a feed, by the replies that it gets.
 use Rattle.std.specs.Prelude.{◌≡◌, ◌<◌, ℕ, List, [], ◌∷◌, ◌++◌, map, Option, Some, None, option_map, Result, Ok, Err, Vec, codes, ⊤}
 use Rattle.std.specs.Global.{Global}
 use Rattle.std.specs.Io.KnownBytes.{Appends, Keeps}
@@ -20,7 +20,7 @@ use Rattle.feeding.specs.Feeds.{Feed, hears}
 
 -- ---- tries
 
--- what was sent, and what came, if anything did
+-- the message that was sent, and the bytes that came back, if any
 pub record Try : Type 0 where
   pub sent : List ℕ
   pub came : Option (List ℕ)
@@ -28,17 +28,17 @@ pub record Try : Type 0 where
 abbrev pub try_of : List ℕ → Option (Vec ℕ Global) → Try
 try_of message came = record { sent = message; came = option_map (λ v. v.items) came }
 
--- with the reply that it is
+-- a try with the reply that came back, if it is one
 pub record Heard : Type 0 where
   pub one : Try
   pub reply : Option Reply
 
--- the message that asks for the pending request
+-- `sent` is the message of the pending request
 abbrev pub IsSent : List ℕ → Option (ℕ × Call) → List ℕ → Type 0
 IsSent machine None sent = ⊥
 IsSent machine (Some ask) sent = sent ≡ sending_of machine ask.0 ask.1
 
--- the reply whose whole text came, if it is one
+-- the received bytes are the complete text of `reply`, or of no reply
 abbrev pub IsHeard : Option (List ℕ) → Option Reply → Type 0
 IsHeard None reply = reply ≡ None
 IsHeard (Some bytes) reply = IsRead bytes reply
@@ -46,10 +46,10 @@ IsHeard (Some bytes) reply = IsRead bytes reply
 pub record IsTry (f : Feed) (h : Heard) : Type 0 where
   pub sent : IsSent f.feeder.machine (asked f.feeder) h.one.sent
   pub read : IsHeard h.one.came h.reply
-  -- ten in a row that change nothing are the most
+  -- at most ten consecutive tries change nothing
   pub few : f.tries < 10
 
--- ---- a whole feed
+-- ---- a complete feed
 
 abbrev pub AreTries : Feed → List Heard → Type 0
 AreTries f [] = ⊤
@@ -59,22 +59,22 @@ abbrev pub feed_after : Feed → List Heard → Feed
 feed_after f [] = f
 feed_after f (h ∷ hs) = feed_after (hears f h.reply) hs
 
--- what is printed after each try
+-- the output of all tries
 abbrev pub printed : Feed → List Heard → List ℕ
 printed f [] = []
 printed f (h ∷ hs) = (hears f h.reply).text ++ printed (hears f h.reply) hs
 
--- these were exchanged, in order, and nothing else
+-- exactly the messages of the tries `hs` were exchanged, in this order
 abbrev pub Logs : Option (List Try) → Option (List Try) → List Heard → Type 0
 Logs before after hs = after ≡ option_map (λ l. l ++ map (λ (h : Heard). h.one) hs) before
 
--- the next line has another form
+-- the next line is malformed
 abbrev pub IsBadLine : List (List ℕ) → Type 0
 IsBadLine [] = ⊥
 IsBadLine (l ∷ ls) = card_of l ≡ None
 
--- no card is in, and all were put in; or the next line has another form; or a later boot released
--- the numbers; or ten tries changed nothing; or memory was refused in a further try
+-- the state of the feed when it ends: all cards were processed; or the next line is malformed; or a
+-- later boot released the numbers; or ten tries changed nothing; or a write or an allocation failed
 abbrev pub EndsBy : Feed → Result (Unit {0}) FeedStop → Type 0
 EndsBy f (Ok u) = (f.feeder.stand ≡ Idle) × (f.left ≡ [])
 EndsBy f (Err stop.BadLine) = (f.feeder.stand ≡ Idle) × IsBadLine f.left
@@ -84,30 +84,30 @@ EndsBy f (Err stop.WriteFailed) = ⊤
 EndsBy f (Err stop.ReadFailed) = ⊥
 EndsBy f (Err stop.Memory) = f.tries < 10
 
--- the text of these tries was written, or a beginning of it where the writer failed
+-- `text` was written, or only a prefix of it if the writer failed
 abbrev pub Written : Option (List ℕ) → Option (List ℕ) → List ℕ → Result (Unit {0}) FeedStop → Type 0
 Written before after text (Err stop.WriteFailed) = AppendsBeginning before after text
 Written before after text _ = Appends before after text
 
--- refused memory may come in the midst of a try
+-- the tries were exchanged; an allocation may fail during a try
 abbrev pub Exchanged : Option (List Try) → Option (List Try) → List Heard → Result (Unit {0}) FeedStop → Type 0
 Exchanged before after hs (Err stop.Memory) = ⊤
 Exchanged before after hs _ = Logs before after hs
 
--- a feed goes on from here by these tries
+-- feed `f` continues with the tries `hs` and ends with `result`
 pub record Goes (f : Feed) (hs : List Heard) (log_before log_after : Option (List Try)) (before after : Option (List ℕ)) (result : Result (Unit {0}) FeedStop) : Type 0 where
   pub tries : AreTries f hs
   pub exchanged : Exchanged log_before log_after hs result
   pub ends : EndsBy (feed_after f hs) result
   pub written : Written before after (printed f hs) result
 
--- nothing was printed or sent where the reader failed
+-- a feed ends; if the reader failed, nothing was printed or sent
 abbrev pub FeedEnds : (List ℕ → Feed) → Option (List ℕ) → Option (List Try) → Option (List Try) → Option (List ℕ) → Option (List ℕ) → Result (Unit {0}) FeedStop → Type 0
 FeedEnds first known log_before log_after before after (Err stop.ReadFailed) = (log_after ≡ log_before) × Keeps before after
 FeedEnds first known log_before log_after before after result =
     (raw : List ℕ) × Agrees known raw × (hs : List Heard) × Goes (first raw) hs log_before log_after before after result
 
--- the words of an end that is printed
+-- the text of a reason to stop
 abbrev pub stop_text : FeedStop → List ℕ
 stop_text stop.BadLine = codes "a line is malformed"
 stop_text stop.Stale = codes "the boot is released"
@@ -116,14 +116,14 @@ stop_text stop.ReadFailed = codes "the reader failed"
 stop_text stop.WriteFailed = codes "the writer failed"
 stop_text stop.Memory = codes "memory was refused"
 
--- ---- steps on the way
+-- ---- intermediate results
 
--- the next line has no card's form, if there is one
+-- the next line, if there is one, is malformed
 abbrev pub IsDrawn : List (List ℕ) → Type 0
 IsDrawn [] = ⊤
 IsDrawn (l ∷ ls) = card_of l ≡ None
 
--- no command waits for its card, and where no card is in none can be put in
+-- no command is waiting for its card, and if no card is inserted, none can be
 abbrev pub IsSettledAt : List (List ℕ) → Stand → Type 0
 IsSettledAt ls Idle = IsDrawn ls
 IsSettledAt ls (Asks call) = ⊤
@@ -133,14 +133,14 @@ IsSettledAt ls Stale = ⊤
 abbrev pub IsSettled : Feed → Type 0
 IsSettled f = IsSettledAt f.left f.feeder.stand
 
--- how it ends where nothing is asked
+-- the end of a feed without a pending request
 abbrev pub IsEnd : Feed → Result (Unit {0}) FeedStop → Type 0
 IsEnd f (Ok u) = EndsBy f (Ok u)
 IsEnd f (Err stop.BadLine) = EndsBy f (Err stop.BadLine)
 IsEnd f (Err stop.Stale) = EndsBy f (Err stop.Stale)
 IsEnd f (Err _) = ⊥
 
--- what is printed after a try was written, or a beginning of it where the writer failed
+-- the output of a try was written, or only a prefix of it if the writer failed
 abbrev pub IsPrinted : Feed → Feed → Option (List ℕ) → Option (List ℕ) → Result (Unit {0}) FeedStop → Type 0
 IsPrinted heard after old new (Ok u) = (after ≡ heard) × Appends old new heard.text
 IsPrinted heard after old new (Err stop.WriteFailed) = AppendsBeginning old new heard.text

@@ -1,4 +1,4 @@
--- How the code's values are seen.
+-- The values of the code as values of the definitions.
 use Rattle.std.specs.Prelude.{◌≡◌, ℕ, List, Option, Some, map, drop, option_map}
 use Rattle.job_facts.specs.declared.reply.Reply.{Reply}
 use Rattle.job_facts.specs.declared.request.Call.{Call}
@@ -25,14 +25,14 @@ feed_view f = record {
   text = f.text.items;
 }
 
--- a call is asked under this number
+-- a request with the number `number` is pending
 abbrev pub AsksUnder : ℕ → Feed → Type 0
 AsksUnder number f = (call : Call) × (asked f.feeder ≡ Some (number, call))
 
--- the cards that a try puts out as bad
+-- `out` has the cards that are rejected after a try with this number and reply
 abbrev pub IsRejected : Feed → ℕ → Option Reply → Rejected → Type 0
 IsRejected f number reply out = (out.card ≡ rejection f number reply) × (cards_in (map (λ l. l.now) out.lines.now) ≡ without_numbers (by_reply f number reply))
 
--- the bytes that came, if any did
+-- the received bytes, if any
 abbrev pub came_in : Response → Option (List ℕ)
 came_in r = option_map (λ v. v.items) r.came

@@ -1,4 +1,4 @@
-//! The cards of a feed, and the lines that are printed of them.
+//! The cards of a feed, and the lines that are printed about them.
 ghost use Rattle.std.specs.Prelude.{◌≡◌, ◌<◌, ◌^◌, ◌++◌, IfOk, IfSome, OnOk, map, option_map};
 ghost use Rattle.std.specs.Prelude.{string_bytes};
 ghost use Rattle.text_io.specs.Numbers.{status_word};
@@ -12,10 +12,10 @@ use itoa::Buffer;
 use std::alloc::{AllocError, Global};
 use text_io::{number_within, status_word, words_of};
 
-/// The greatest serial.
+/// The largest serial number.
 pub(crate) const MOST_SERIAL: u64 = 999_999_999_999_999_999;
 
-/// A card's serial, the words that it gives in turn, and how many of them it has given.
+/// A simulated card: its serial number, its status words in order, and how many it has returned.
 #[derive(Drop)]
 pub(crate) struct Card {
     pub(crate) serial: u64,
@@ -24,7 +24,7 @@ pub(crate) struct Card {
 }
 
 impl Card {
-    /// A card that gives these words.
+    /// Creates a card that returns the status words `words`.
     pub(crate) fn new(serial: u64, words: Vec<u16>) -> Card
         ensures { card_view result ≡ record { serial = serial; words = words.items; given = 0 } }
     {
@@ -35,7 +35,7 @@ impl Card {
         }
     }
 
-    /// The status word that it gives next: 9000 when its words are used up.
+    /// Returns the next status word of the card: 9000 once all its status words are used.
     pub(crate) fn give(&mut self) -> u16
         ensures word { result ≡ next_word (card_view self.old) }
         ensures given { card_view self.new ≡ gives (card_view self.old) }
@@ -50,7 +50,11 @@ impl Card {
     }
 }
 
-/// The card of a line, if it has the form of one. It fails only where memory is refused.
+/// Parses the card of a line. Returns `None` if the line is malformed.
+///
+/// # Errors
+///
+/// Fails only if an allocation fails.
 #[tactic(auto, using(crate::proofs::Words::card_read))]
 pub(crate) fn card_of(alloc: Global, line: &[u8]) -> Result<Option<Card>, AllocError>
     ensures value { IfOk result (λ card. option_map card_view card ≡ card_of line.now) }
@@ -69,7 +73,7 @@ pub(crate) fn card_of(alloc: Global, line: &[u8]) -> Result<Option<Card>, AllocE
     }
 }
 
-// The words that these spell, if each spells one.
+// Parses the status words in `texts`. Returns `None` if one of them is malformed.
 #[tactic(auto, using(crate::proofs::Words::words_none, crate::proofs::Words::words_more, crate::proofs::Words::words_bad, crate::proofs::Words::words_all))]
 fn status_words(alloc: Global, texts: &[&[u8]]) -> Result<Option<Vec<u16>>, AllocError>
     ensures { IfOk result (λ words. option_map (λ ws. ws.items) words
@@ -85,7 +89,7 @@ fn status_words(alloc: Global, texts: &[&[u8]]) -> Result<Option<Vec<u16>>, Allo
     Ok(Some(words))
 }
 
-/// Adds the line of a command that the card received, with the status word that it gave.
+/// Adds the line of a command that the card received, with the status word that it returned.
 pub(crate) fn push_applied(
     alloc: Global,
     text: &mut Vec<u8>,
@@ -104,14 +108,14 @@ pub(crate) fn push_applied(
     push_line(text, serial, content.as_slice())
 }
 
-// Four hexadecimal digits in upper case.
+// Returns four upper-case hexadecimal digits.
 fn word_text(alloc: Global, sw: u16) -> Result<String, AllocError>
     ensures { IfOk result (λ text. string_bytes text ≡ word_text sw) }
 {
     hex::encode_upper(alloc, sw.to_be_bytes())
 }
 
-/// Adds the line of a card that was put out.
+/// Adds the line of an ejected card.
 pub(crate) fn push_end(text: &mut Vec<u8>, serial: u64, good: bool) -> Result<(), AllocError>
     ensures { OnOk result (text.new.items ≡ text.old.items ++ end_line serial good) }
 {

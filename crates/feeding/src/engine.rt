@@ -1,4 +1,4 @@
-//! The engine of `persod feed`.
+//! Runs a feed: sends requests and processes cards until the list ends.
 ghost use Rattle.std.specs.Prelude.{◌≡◌, ◌≤◌, ◌<◌, ◌^◌, ◌∷◌, ◌++◌, [], List, None};
 ghost use Rattle.std.specs.Prelude.{IfOk, if◌then◌else◌, option_map};
 ghost use Rattle.wire.specs.Sending.{IsSendable, sending_of};
@@ -24,23 +24,23 @@ use store_data::Name;
 use text_io::{ReadFault, WriteFailed, lines_of, read_whole, write_text};
 use wire::{parse_reply, request_text};
 
-/// So many tries in a row may change nothing.
+/// The maximum number of consecutive tries that change nothing.
 const MOST_TRIES: u32 = 10;
 
-/// Why a feed stopped.
+/// A reason why a feed stopped.
 #[derive(Clone, Copy, Debug, PartialEq, Eq)]
 pub enum FeedStop {
-    /// A line has no form of a card's: refusal 400.
+    /// A line is malformed: refusal 400.
     BadLine,
-    /// A later boot of the machine has released its numbers: refusal 73.
+    /// A later boot of the machine released these request numbers: refusal 73.
     Stale,
-    /// Ten tries in a row brought no reply that changed anything.
+    /// Ten consecutive tries brought no reply that changed anything.
     NoReply,
     /// A read failed.
     ReadFailed,
-    /// A write failed, or took nothing.
+    /// A write failed or accepted no bytes.
     WriteFailed,
-    /// Memory was refused.
+    /// An allocation failed.
     Memory,
 }
 
@@ -97,17 +97,25 @@ impl From<WriteFailed> for FeedStop {
     }
 }
 
-/// Feeds a machine with the cards of the reader's lines, one after the other: starts it with a
-/// boot that it never had, 1 to 9,999,999,999, sends what its feeder asks, each ask on a connection
-/// of its own, and does what the feeder's acts are. A line is a card's serial and the words that it
-/// answers in turn, `SERIAL SW SW ..`, and 9000 when they are used up. Printed is `SERIAL HEX SW`
-/// for each command that is applied, and `SERIAL good` or `SERIAL rejected` at the end of each card
-/// (this project's profile). A card for which the boot has no numbers left is rejected.
+/// Processes the cards of `reader` as `machine`, one after another. `boot` is a boot number that
+/// the machine never had before, 1 to 9,999,999,999. Every request is sent on its own connection of
+/// `exchange`.
 ///
-/// The input is read whole at first; what is printed is written as it comes, and left to the caller
-/// to flush. Errors: a line of another form, before which all cards were fed; numbers that a later
-/// boot released; ten tries in a row that changed nothing; a read or a write that fails; refused
-/// memory.
+/// A line of `reader` is a card: its serial number and its status words, `SERIAL SW SW ..`. Once
+/// they are used up the card returns 9000. For each command that a card receives `SERIAL HEX SW` is
+/// written to `writer`, and at its end `SERIAL good` or `SERIAL rejected` (this project's profile).
+/// A card is rejected if the boot has too few request numbers left for it.
+///
+/// The input is read completely at first. Output is written as soon as it is known; the caller
+/// flushes `writer`.
+///
+/// # Errors
+///
+/// - `BadLine`: a line is malformed. All cards before it were processed.
+/// - `Stale`: a later boot of the machine released these request numbers.
+/// - `NoReply`: ten consecutive tries changed nothing.
+/// - `ReadFailed`, `WriteFailed`: a read or a write fails.
+/// - `Memory`: an allocation fails.
 pub fn feed_engine<R: Read, W: Write, X: Exchange>(
     alloc: Global,
     machine: Name,
@@ -136,11 +144,14 @@ pub fn feed_engine<R: Read, W: Write, X: Exchange>(
     )
 }
 
-/// Feeds a machine as `feed_engine` does, and writes event lines: for each card that is rejected
-/// the number and the code of the refusal or another cause, for each try that changed nothing what
-/// came, and at a line of another form its number and what is wrong with it. Those of a try come
-/// before what is printed after it. Nothing is made of them where the log is off, and a line that
-/// can't be written stops nothing.
+/// Does the same as `feed_engine`, and writes event lines to `events`: for each rejected card the
+/// request number and the code of the refusal or another cause, for each try that changed nothing
+/// the response, and for a malformed line its number and its flaw. The event lines of a try are
+/// written before its output. Event lines that can't be written are ignored.
+///
+/// # Errors
+///
+/// The same as for `feed_engine`.
 pub fn feed_with_events<R: Read, W: Write, X: Exchange, E: Write + Drop>(
     alloc: Global,
     machine: Name,
@@ -163,7 +174,7 @@ pub fn feed_with_events<R: Read, W: Write, X: Exchange, E: Write + Drop>(
     feed_all(alloc, &mut feed, writer, exchange, events)
 }
 
-// Goes on until nothing is asked.
+// Sends requests until no request is pending.
 fn feed_all<W: Write, X: Exchange, E: Write + Drop>(
     alloc: Global,
     feed: &mut Feed<'_>,
@@ -187,7 +198,7 @@ fn feed_all<W: Write, X: Exchange, E: Write + Drop>(
     end(alloc, feed, events)
 }
 
-// Goes on after a try, and writes its event lines and what is printed after it.
+// Continues after a try, and writes its event lines and its output.
 fn go_on<W: Write, E: Write + Drop>(
     alloc: Global,
     feed: &mut Feed<'_>,
@@ -220,21 +231,21 @@ fn go_on<W: Write, E: Write + Drop>(
     Ok(())
 }
 
-// What came, where it is wanted for event lines.
+// Keeps the received bytes only if event lines need them.
 fn kept(came: Option<Vec<u8>>, is_wanted: bool) -> Option<Vec<u8>>
     ensures { result ≡ (if is_wanted then came else None) }
 {
     came.filter(|_| is_wanted)
 }
 
-// What came after a message, if anything did, and the reply that it is, if it is one.
+// The bytes that came back, if any, and the reply that they contain, if they are one.
 #[derive(Drop)]
 struct Response {
     came: Option<Vec<u8>>,
     reply: Option<Reply>,
 }
 
-// Sends a call, and reads what comes back.
+// Sends a request and reads the response.
 fn one_try<X: Exchange>(
     alloc: Global,
     machine: &Name,
@@ -256,7 +267,7 @@ fn one_try<X: Exchange>(
     Ok(Response { came, reply })
 }
 
-// The reply that is the whole of what came.
+// Parses a reply that consists of all received bytes.
 fn reply_in(alloc: Global, came: Option<&[u8]>) -> Result<Option<Reply>, AllocError>
     ensures { IfOk result (λ reply. IsHeard (option_map (λ b. b.now) came.entry) reply) }
 {
@@ -266,7 +277,7 @@ fn reply_in(alloc: Global, came: Option<&[u8]>) -> Result<Option<Reply>, AllocEr
     }
 }
 
-// Nothing is asked, and no card is in.
+// Ends the feed: no request is pending and no card is inserted.
 fn end<E: Write + Drop>(
     alloc: Global,
     feed: &Feed<'_>,

@@ -17,23 +17,23 @@ use job_facts::{MACHINE_BUSY, NUMBER_RELEASED, Refusal, Reply};
 use std::alloc::{AllocError, Global};
 use std::io::Write;
 
-/// The most bytes of a reply's first line that are written.
+/// The maximum number of bytes of a response's first line that are written.
 const MOST_OF_LINE: usize = 100;
 
-/// A try: what it asked, what came, and what that changed.
+/// A try: its request, the response, and the effect.
 #[derive(Drop)]
 pub(crate) struct Tried<'a> {
-    /// The number of what was asked.
+    /// The request number.
     pub(crate) number: u64,
-    /// The serial of the card that was in.
+    /// The serial number of the inserted card.
     pub(crate) serial: u64,
-    /// The bytes that came, if any did.
+    /// The received bytes, if any.
     pub(crate) came: Option<&'a [u8]>,
-    /// The reply that they are, if they are one.
+    /// The reply that they contain, if they are one.
     pub(crate) reply: Option<&'a Reply>,
-    /// The cards that were put out as bad.
+    /// The rejected cards.
     pub(crate) rejected: Rejected<'a>,
-    /// How many tries in a row changed nothing.
+    /// The number of consecutive tries that changed nothing.
     pub(crate) tries: u32,
 }
 
@@ -55,7 +55,7 @@ impl Tried<'_> {
         }
     }
 
-    // Writes the lines of the card that was in, if it was put out as bad.
+    // Writes the event lines of the inserted card if it was rejected.
     fn note_rejection<E: Write + Drop>(&self, alloc: Global, events: &mut EventLog<E>)
         ensures { IsNoted E.contents events.old events.new (rejection_lines self.now.serial
             self.now.number (option_map (λ r. r.now) self.now.reply) self.now.rejected.card) }
@@ -74,7 +74,7 @@ impl Tried<'_> {
     }
 }
 
-// Writes the lines of a card that a reply put out as bad.
+// Writes the event lines of a card that was rejected because of a reply.
 fn note_refusal<E: Write + Drop>(
     alloc: Global,
     serial: u64,
@@ -95,7 +95,7 @@ fn note_refusal<E: Write + Drop>(
     }
 }
 
-// Writes a line for each card of these lines, up to a line of another form.
+// Writes an event line for each card in `lines`, up to a malformed line.
 fn note_without_numbers<E: Write + Drop>(alloc: Global, lines: &[&[u8]], events: &mut EventLog<E>)
     ensures { IsNoted E.contents events.old events.new
         (map (λ c. exhausted_line c.serial) (cards_in (map (λ l. l.now) lines.now))) }
@@ -108,7 +108,8 @@ fn note_without_numbers<E: Write + Drop>(alloc: Global, lines: &[&[u8]], events:
     }
 }
 
-// The serial of a line's card, if it has the form of one and memory isn't refused.
+// Returns the serial number of the card in `line`, or `None` if the line is malformed or an
+// allocation fails.
 fn serial_in(alloc: Global, line: &[u8]) -> Option<u64>
     ensures { IfSome result (λ serial. option_map (λ c. c.serial) (card_of line.now)
         ≡ Some serial) }
@@ -119,7 +120,7 @@ fn serial_in(alloc: Global, line: &[u8]) -> Option<u64>
     }
 }
 
-/// Writes what is wrong with the line of this number, if anything is.
+/// Writes the event line about the flaw of `line`, if it has one. `number` is its line number.
 pub(crate) fn note_flaw<E: Write + Drop>(
     alloc: Global,
     number: u64,
@@ -136,7 +137,7 @@ pub(crate) fn note_flaw<E: Write + Drop>(
     }
 }
 
-// The code and the name in a refusal's body.
+// Returns the code and the name of a refusal.
 #[tactic(auto, unfolding(crate::specs::Events::refusal_in, http_requests::specs::Members::text_at))]
 fn refusal_in(reply: &Reply) -> Option<(u8, &'static str)>
     ensures { option_map (λ r. (r.0, r.1.now)) result ≡ refusal_in reply.now }
@@ -217,8 +218,8 @@ fn again_line(
     }
 }
 
-// With the first line of `bytes` if they begin as a response does, or otherwise with their number:
-// a body without a head can be a command of a card.
+// Adds the first line of `bytes` if they begin with an HTTP version, otherwise only the number of
+// bytes: a body without a head could contain a command, and so card data.
 fn with_came(line: EventLine, bytes: &[u8]) -> Result<EventLine, AllocError>
     ensures { IfOk result (λ more. text_of more ≡ text_of line ++ came_pair bytes.now) }
 {
@@ -229,7 +230,7 @@ fn with_came(line: EventLine, bytes: &[u8]) -> Result<EventLine, AllocError>
     }
 }
 
-// The bytes before the first CR or LF, and no more than are written.
+// Returns the bytes before the first CR or LF, at most `MOST_OF_LINE`.
 fn first_line(bytes: &[u8]) -> &[u8]
     ensures { result.now ≡ first_line bytes.now }
 {
@@ -237,7 +238,7 @@ fn first_line(bytes: &[u8]) -> &[u8]
     &bytes[..end.min(MOST_OF_LINE)]
 }
 
-// Where the first CR or LF is.
+// Returns the position of the first CR or LF.
 fn line_end(bytes: &[u8]) -> Option<usize>
     ensures { result ≡ position (λ b. (b == 13) || (b == 10)) bytes.now }
 {

@@ -1,4 +1,4 @@
-//! A feed: a machine that is given one card after the other.
+//! The state of a feed: a feeder, its cards, and its output.
 ghost use Rattle.std.specs.Prelude.{◌≡◌, ◌<◌, ◌≤◌, List, ℕ, IfOk, OnOk, Some, drop, map};
 ghost use Rattle.std.specs.Prelude.{option_map};
 ghost use Rattle.text_io.specs.Lines.{lines as lines_in};
@@ -16,26 +16,26 @@ use job_facts::Reply;
 use std::alloc::{AllocError, Global};
 use store_data::Name;
 
-/// How the card that was in was put out as bad.
+/// The reason why the inserted card was rejected.
 #[derive(Clone, Copy)]
 pub(crate) enum Rejection {
-    /// A reply said so.
+    /// A reply of the server.
     ByReply,
-    /// The boot had no number left under which to report its status word.
+    /// The boot had no request number left to report the status word.
     Exhausted,
 }
 
-/// The cards that a try put out as bad.
+/// The cards that were rejected after a try.
 #[derive(Drop)]
 pub(crate) struct Rejected<'a> {
-    /// How the card that was in, if it was.
+    /// The reason for the inserted card, if it was rejected.
     pub(crate) card: Option<Rejection>,
-    /// The lines of those for which the boot had no numbers left, up to a line of another form.
+    /// The lines of the cards for which the boot had too few numbers left, up to a malformed line.
     pub(crate) lines: &'a [&'a [u8]],
 }
 
-/// A machine's feeder, the card that was put in last, the lines of all, how many of them
-/// were taken, and what is printed after the last try.
+/// A feed: the feeder, the last inserted card, all lines, the number of lines taken, and the output
+/// of the last try.
 #[derive(Drop)]
 pub(crate) struct Feed<'a> {
     pub(crate) feeder: Feeder,
@@ -48,7 +48,7 @@ pub(crate) struct Feed<'a> {
 }
 
 impl<'a> Feed<'a> {
-    /// A machine that starts, with the lines of its cards.
+    /// Creates the feed of a machine that starts. `lines` are its cards.
     pub(crate) fn new(
         alloc: Global,
         machine: Name,
@@ -72,7 +72,7 @@ impl<'a> Feed<'a> {
         }
     }
 
-    /// Goes on after a try to ask what is asked under this number.
+    /// Continues after a try to send the pending request, which has the number `number`.
     #[tactic(auto, using(crate::proofs::Runs::hears_is))]
     pub(crate) fn hear(
         &mut self,
@@ -94,8 +94,8 @@ impl<'a> Feed<'a> {
         Ok(Rejected { card, lines })
     }
 
-    // Puts the next card in, where none is. Where the boot has no numbers left for any card, these
-    // are the lines that were left; else none are.
+    // Inserts the next card if the feeder is idle. If the boot has too few numbers left for any
+    // card, all remaining lines are returned, otherwise none.
     fn settle(&mut self, alloc: Global) -> Result<&'a [&'a [u8]], AllocError>
         ensures feed { OnOk result (feed_view self.new ≡ settled (feed_view self.old)) }
         ensures lines { IfOk result (λ lines. cards_in (map (λ l. l.now) lines.now)
@@ -109,7 +109,7 @@ impl<'a> Feed<'a> {
         }
     }
 
-    // The lines of the cards that were not put in yet.
+    // Returns the lines of the cards that weren't inserted yet.
     fn left(&self) -> &'a [&'a [u8]]
         ensures { result.now ≡ drop self.now.at self.now.lines.now }
     {
@@ -125,7 +125,7 @@ impl<'a> Feed<'a> {
         }
     }
 
-    // Does what a reply brings.
+    // Handles the reply, if there is one.
     fn take(
         &mut self,
         alloc: Global,
@@ -143,7 +143,7 @@ impl<'a> Feed<'a> {
         }
     }
 
-    // A try changed nothing where the same number is asked still.
+    // A try had no effect if the same request number is still pending.
     fn count(&mut self, number: u64)
         requires few { self.old.tries < 10 }
         ensures { feed_view self.new ≡ counted number (feed_view self.old) }
@@ -164,7 +164,7 @@ impl<'a> Feed<'a> {
         }
     }
 
-    // Does what the feeder's act is.
+    // Performs the action that the feeder returned.
     fn act_on(
         &mut self,
         alloc: Global,
@@ -183,7 +183,7 @@ impl<'a> Feed<'a> {
         }
     }
 
-    // The card receives a command, and gives its next status word.
+    // The card receives `command` and returns its next status word.
     fn apply(&mut self, alloc: Global, command: &[u8]) -> Result<Option<Rejection>, AllocError>
         ensures feed { OnOk result (feed_view self.new
             ≡ applies (feed_view self.old) command.now) }
@@ -198,7 +198,7 @@ impl<'a> Feed<'a> {
         }
     }
 
-    // The card is put out as good, or as bad in this way.
+    // The card is ejected as good, or rejected because of `why`.
     fn put_out(&mut self, good: bool, why: Rejection) -> Result<Option<Rejection>, AllocError>
         ensures feed { OnOk result (feed_view self.new ≡ puts_out (feed_view self.old) good) }
         ensures card { IfOk result (λ card. card ≡ bad_by why (Eject good)) }
@@ -207,7 +207,7 @@ impl<'a> Feed<'a> {
         Ok(if good { None } else { Some(why) })
     }
 
-    // Puts the next card in. One for which the boot has no numbers left is put out as bad.
+    // Inserts the next card. A card is rejected if the boot has too few numbers left for it.
     fn draw(&mut self, alloc: Global) -> Result<(), AllocError>
         ensures { OnOk result (feed_view self.new
             ≡ draws (feed_view self.old) (feed_view self.old).left) }

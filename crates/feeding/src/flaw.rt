@@ -1,4 +1,4 @@
-//! What is wrong with a line that has no form of a card's.
+//! The flaws of malformed lines.
 ghost use Rattle.std.specs.Prelude.{◌≡◌, ◌↔◌, ◌==◌, IfOk, IsSome, None, length, map, not};
 ghost use Rattle.std.specs.List.{list_any};
 ghost use Rattle.text_io.specs.Numbers.{is_word};
@@ -9,23 +9,23 @@ use crate::card::MOST_SERIAL;
 use std::alloc::{AllocError, Global};
 use text_io::{number_within, status_word, words_of};
 
-/// What is wrong with a line of a feed's list.
+/// A flaw of a line in the list of cards.
 #[derive(Clone, Copy, Debug, PartialEq, Eq)]
 pub enum Flaw {
-    /// It is empty.
+    /// The line is empty.
     Empty,
-    /// It ends in CR.
+    /// The line ends with CR.
     EndsInCr,
-    /// One of its words is empty: two spaces stand together, or a space stands at an end.
+    /// A word is empty: the line has two spaces in a row, or a space at its start or end.
     Space,
-    /// Its first word is no serial: it is no number, has a leading zero, or is too great.
+    /// The first word isn't a serial number: it isn't decimal, has a leading zero, or is too large.
     Serial,
-    /// A word behind the serial isn't four hexadecimal digits.
+    /// A word after the serial number isn't four hexadecimal digits.
     Word,
 }
 
 impl Flaw {
-    /// Its word in an event line.
+    /// Returns the word for this flaw in an event line.
     pub fn name(self) -> &'static str
         ensures { result.now ≡ flaw_name self }
     {
@@ -39,8 +39,12 @@ impl Flaw {
     }
 }
 
-/// What is wrong with a line of a feed's list, without its LF: the first of these flaws that it
-/// has. A line has one exactly where it has no card's form. It fails only where memory is refused.
+/// Returns the first flaw of `line`, in the order of the variants of `Flaw`. `line` has no LF. A
+/// line has a flaw if and only if `card_of` doesn't find a card in it.
+///
+/// # Errors
+///
+/// Fails only if an allocation fails.
 #[tactic(auto, using(crate::proofs::Flaws::flaw_law))]
 pub fn flaw_of(alloc: Global, line: &[u8]) -> Result<Option<Flaw>, AllocError>
     ensures value { IfOk result (λ flaw. flaw ≡ flaw_of line.now) }
@@ -59,7 +63,7 @@ pub fn flaw_of(alloc: Global, line: &[u8]) -> Result<Option<Flaw>, AllocError>
     Ok(flaw_by(words.as_slice()))
 }
 
-// What is wrong with words none of which is empty.
+// Returns the flaw of a line whose words aren't empty.
 fn flaw_by(words: &[&[u8]]) -> Option<Flaw>
     ensures { result ≡ flaw_by (map (λ w. w.now) words.now) }
 {
@@ -72,14 +76,14 @@ fn flaw_by(words: &[&[u8]]) -> Option<Flaw>
     has_other(rest).then_some(Flaw::Word)
 }
 
-// Whether one of the words is empty.
+// Returns `true` if one of the words is empty.
 fn has_empty(words: &[&[u8]]) -> bool
     ensures { result ≡ list_any (λ w. length w.now == 0) words.now }
 {
     words.iter().any(|word| word.is_empty())
 }
 
-// Whether one of the words isn't four hexadecimal digits.
+// Returns `true` if one of the words isn't four hexadecimal digits.
 fn has_other(words: &[&[u8]]) -> bool
     ensures { result ≡ list_any (λ w. not (is_word w.now)) words.now }
 {

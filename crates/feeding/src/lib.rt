@@ -1,4 +1,4 @@
-//! The engine of `persod feed`: a machine's feeder, run against a server with cards from a list.
+//! The engine of `persod feed`: a driver that processes a list of simulated cards with a server.
 #![tactic(auto)]
 
 mod card;

@@ -1,4 +1,4 @@
--- What rows come to that were read of a database.
+-- The result of auditing the rows that were read from a database.
 use Rattle.std.proofs.Common.{◌≡◌, false, Option, Some, None, Result, Ok, Err, is_some, inr, refl, subst, sym}
 use Rattle.std.specs.Prelude.{IfOk, IfSome, MatchOption, option_map}
 use Rattle.sqlite.specs.Effect.{Database}
@@ -36,11 +36,11 @@ rows_judged v db t None held judged = inr (v, (judged.0, judged.1, any_order v (
 rows_judged v db t (Some UnreadableRow) held judged = absurd judged
 rows_judged v db t (Some (Broken rule)) held judged = (v, (judged.0, any_order v judged.0 t db judged.1 held, judged.2, judged.3))
 
--- the tables are those of this version
+-- The tables are the tables of version `v`.
 pub stands_as : (db : Database) (given : Standing) (v : Version) → given ≡ Ours v → Stands db given → Stands db (Ours v)
 stands_as db given v is value = subst (Stands db) is value
 
--- of one state, and a state after it that shows the same
+-- the same state, and a later state that shows the same database
 pub read_judged : (old mid : State) → IsKept old mid → (v : Version) → Stands old.now (Ours v) → (found : Option Tables) (t : Tables) → found ≡ Some t
     → Reads (HoldsNoneOf v) (HasRows v) mid found → (r : Result (Option Damage) Error) → IfOk r (Judges t) → IfOk r (λ damage. MatchOption damage (IsUndamaged old.now) (SaysWhat old.now))
 read_judged old mid kept v is found t some read (Ok damage) judged =

@@ -1,4 +1,4 @@
--- Why a database is refused.
+-- The causes for refusing a database.
 use Rattle.std.specs.Prelude.{◌⊎◌}
 use Rattle.sqlite.specs.Effect.{Database}
 use Rattle.table_rows.specs.Tables.{Tables}
@@ -15,24 +15,25 @@ use Rattle.file_causes.specs.declared.damage.Damage.TheVariants.{Broken, Unreada
 use Rattle.file_causes.specs.declared.difference.Difference.{Difference}
 use Rattle.file_causes.specs.declared.difference.Difference.TheVariants.{OtherVersion}
 
--- ---- its tables are those of no version
+-- ---- the tables aren't the tables of any schema version
 
 abbrev pub IsNotOurs : Database → Type 0
 IsNotOurs db = (v : Version) → ¬ IsOfVersion v db
 
--- they are those of a version but for what their own row says, or they differ from those of the
--- nearest version
+-- Only the row of `version` is wrong, or `difference` is a difference from the tables of the
+-- nearest version.
 abbrev pub SaysHow : Database → Difference → Type 0
 SaysHow db OtherVersion = (v : Version) × HasJust db.schema (schema_of v) × ¬ SaysVersion v db
 SaysHow db difference = Differs (schema_of (nearest db.schema)) db.schema difference
 
--- ---- its rows are not those of sound contents
+-- ---- the rows aren't the rows of sound contents
 
--- in its tables some row is none of ours, or the rows stand there whose first broken rule this is
+-- A row doesn't have the shape of its table, or `rule` is the first audit rule that the rows break.
 abbrev pub SaysWhat : Database → Damage → Type 0
 SaysWhat db UnreadableRow = (v : Version) × IsOfVersion v db × HoldsNoneOf v db
 SaysWhat db (Broken rule) = (v : Version) × ((t : Tables) × HoldsRows v t db × AreSorted t × FailsFirst rules t rule)
 
--- it isn't one whose rows are damaged
+-- The database isn't one with damaged rows: its tables aren't the tables of any schema version, or
+-- it holds sound contents.
 abbrev pub IsUndamaged : Database → Type 0
 IsUndamaged db = IsNotOurs db ⊎ ((v : Version) × HoldsSoundRows v db)

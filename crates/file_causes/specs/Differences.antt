@@ -1,4 +1,5 @@
--- How the tables of a database differ from ours (docs/TABLES.md, "When rows are taken").
+-- The differences between the tables of a database and the tables of a schema version
+-- (docs/TABLES.md, "Accepted tables").
 use Rattle.std.specs.Prelude.{◌≡◌, ◌<◌, ◌∷◌, ◌&&◌, ◌||◌, ℕ, Bool, true, false, not, if◌then◌else◌, List, codes, length, slice_index_or}
 use Rattle.std.specs.List.{AllWithin, list_any}
 use Rattle.sqlite_schema.specs.Names.{same_name}
@@ -13,25 +14,25 @@ use Rattle.sql_tables.specs.declared.versions.Version.TheVariants.{One, Two, Thr
 use Rattle.file_causes.specs.declared.difference.Difference.{Difference}
 use Rattle.file_causes.specs.declared.difference.Difference.TheVariants.{Empty, Missing, Other, Foreign, FurtherKey, View, SharedPage, OtherVersion}
 
--- a table has this name, in letters of any case
+-- The schema has a table with this name. Case doesn't matter.
 abbrev pub has_table : Schema → List ℕ → Bool
 has_table s name = list_any (λ t. same_name t.name name) s.tables
 
--- or a view has it, or a table that is kept as it is, since it isn't understood or a trigger or an
--- index that isn't binds it
+-- The schema has a view with this name, or a table that is kept unchanged because it isn't
+-- understood, has a trigger, or has an index that isn't understood.
 abbrev pub has_view : Schema → List ℕ → Bool
 has_view s name = list_any (λ v. same_name v.name name) s.views
 
 abbrev pub is_taken : Schema → List ℕ → Bool
 is_taken s name = has_table s name || has_view s name
 
--- the version that a schema is compared with: the newest, unless the groupings stand under their
--- earlier name alone
+-- the version with which a schema is compared: version 3, unless only the earlier table for
+-- groupings exists
 abbrev pub nearest : Schema → Version
 nearest s = if has_table s (codes "grouping") && not (has_table s (codes "grouping2"))
     then (if has_table s (codes "mark") then Two else One) else Three
 
--- it is the first of these that lacks the property
+-- The element `x` is the first of `xs` without the property `P`.
 pub record IsFirstWithout {X : Type 0} (P : X → Type 0) (xs : List X) (x : X) : Type 0 where
   pub place : ℕ
   pub within : place < length xs
@@ -39,17 +40,18 @@ pub record IsFirstWithout {X : Type 0} (P : X → Type 0) (xs : List X) (x : X) 
   pub before : AllWithin P xs 0 place
   pub lacks : ¬ P x
 
--- our tables are there, and no other
+-- The schema has the tables of `ours`, and no other table.
 abbrev pub HasOurs : Schema → Schema → Type 0
 HasOurs ours s = AreAmong ours.tables s.tables × AreAmong s.tables ours.tables
 
--- a table of ours that isn't there, by whether anything has its name
+-- the difference for a table that the schema doesn't have, depending on whether something else has
+-- its name
 abbrev pub Lacks : Schema → Table → Difference → Type 0
 Lacks s t (Missing name) = (name.items ≡ t.name) × (is_taken s t.name ≡ false)
 Lacks s t (Other name) = (name.items ≡ t.name) × (is_taken s t.name ≡ true)
 Lacks s t _ = ⊥
 
--- what may be said of a schema beside ours: of these the first that is true
+-- the difference between a schema and `ours`; the first that applies is reported
 abbrev pub Differs : Schema → Schema → Difference → Type 0
 Differs ours s Empty = s ≡ no_schema
 Differs ours s (Missing name) = (t : Table) × IsFirstWithout (IsOneOf s.tables) ours.tables t × Lacks s t (Missing name)

@@ -1,4 +1,4 @@
--- Whose tables a database has, and what rows come to that were read of it.
+-- The version of a database, and the result of auditing its rows.
 use Rattle.std.specs.Prelude.{Option, Some, None}
 use Rattle.sqlite.specs.Effect.{Database}
 use Rattle.job_facts.specs.Contents.{AreSound, Contents}
@@ -19,7 +19,8 @@ abbrev pub Stands : Database → Standing → Type 0
 Stands db (Ours v) = IsOfVersion v db × AreThere db.schema (schema_of v).tables
 Stands db (NotOurs difference) = SaysHow db difference × IsNotOurs db
 
--- the rows are those of sound contents, or in order they break this rule first
+-- The rows are the rows of sound contents, or, in order, `rule` is the first audit rule that they
+-- break.
 abbrev pub Judges : Tables → Option Damage → Type 0
 Judges t None = (c : Contents) × AreSound c × HaveSameRows t (image c)
 Judges t (Some UnreadableRow) = ⊥

@@ -1,4 +1,4 @@
--- The words and names by which people read why a database is refused (this project's profile).
+-- The printed words and names of the causes for refusing a database (this project's profile).
 use Rattle.std.specs.Prelude.{ℕ, List, codes, Option, Some, None}
 use Rattle.audit_rows.specs.RuleNames.{name_of}
 use Rattle.file_causes.specs.declared.damage.Damage.{Damage}
@@ -27,7 +27,7 @@ name_in (View view) = Some view.items
 name_in SharedPage = None
 name_in OtherVersion = None
 
--- a broken rule by its name
+-- the name of the broken rule
 abbrev pub damage_word : Damage → List ℕ
 damage_word UnreadableRow = codes "unreadable-row"
 damage_word (Broken rule) = name_of rule

@@ -1,21 +1,21 @@
-//! What is wrong with the rows of a database.
+//! The damage to the rows of a database.
 ghost use Rattle.std.specs.Prelude.{◌≡◌, Some};
 ghost use Rattle.file_causes.specs.Words.{damage_word};
 
 use audit_rows::Rule;
 use std::fmt;
 
-/// What is wrong with the rows of our tables.
+/// The damage to the rows of a database whose tables are the tables of a schema version.
 #[derive(Clone, Copy, Debug, PartialEq, Eq)]
 pub enum Damage {
-    /// A row has a value that no row of ours has.
+    /// A row has a value that no row of its table can have.
     UnreadableRow,
-    /// The first rule that the rows break.
+    /// The first audit rule that the rows break.
     Broken { rule: Rule },
 }
 
 impl Damage {
-    /// The word that people read: the name of the rule.
+    /// Returns the printed word, which is the name of the rule.
     pub fn word(self) -> &'static str
         ensures { result.now ≡ damage_word self }
     {

@@ -1,33 +1,33 @@
-//! How the tables of a database differ from ours.
+//! The difference between the tables of a database and the tables of a schema version.
 ghost use Rattle.std.specs.Prelude.{◌≡◌, Some, option_map};
 ghost use Rattle.file_causes.specs.Words.{name_in, word_of};
 
 use std::fmt;
 
-/// How the tables of a database differ from ours, of the version that they are nearest to. Names
-/// are the bytes of the file, which somebody else may have chosen.
+/// The difference between the tables of a database and the tables of the nearest version. Names are
+/// bytes from the file, which another program may have chosen.
 #[derive(Debug, Drop, PartialEq, Eq)]
 pub enum Difference {
     /// The database has no table, no index and no view.
     Empty,
-    /// The first of our tables that isn't there, and nothing has its name.
+    /// The first table of the version that the database doesn't have. Nothing else has its name.
     Missing { table: Vec<u8> },
-    /// The first of our tables that isn't there, and something else has its name.
+    /// The first table of the version that the database doesn't have. Something else has its name.
     Other { table: Vec<u8> },
-    /// The first table that is none of ours.
+    /// The first table that isn't in the version.
     Foreign { table: Vec<u8> },
-    /// The first index that is a key beside those of our tables.
+    /// The first index that is a key but isn't declared by a table.
     FurtherKey { index: Vec<u8> },
-    /// The first view or trigger, or the first table of those that aren't understood.
+    /// The first view or trigger, or the first table that isn't understood.
     View { view: Vec<u8> },
-    /// Two tables stand at one page of the file.
+    /// Two tables are stored at the same page of the file.
     SharedPage,
-    /// The tables' own row says another version.
+    /// The row of `version` has the number of another version.
     OtherVersion,
 }
 
 impl Difference {
-    /// The word that people read.
+    /// Returns the printed word.
     pub fn word(&self) -> &'static str
         ensures { result.now ≡ word_of self.now }
     {
@@ -43,7 +43,7 @@ impl Difference {
         }
     }
 
-    /// The name of the table, the index or the view that it names.
+    /// Returns the name of the table, the index or the view.
     pub fn name(&self) -> Option<&[u8]>
         ensures { option_map (λ name. name.now) result ≡ name_in self.now }
     {

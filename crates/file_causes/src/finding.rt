@@ -1,4 +1,4 @@
-//! Why a database that is opened is refused.
+//! Finds the cause for refusing a database.
 ghost use Rattle.std.specs.Prelude.{◌≡◌, false, IfErr, IfOk, IfSome, MatchOption, option_map};
 ghost use Rattle.sqlite.specs.Held.{state};
 ghost use Rattle.sqlite.specs.State.{HasCleanDisk, Survives, is_disk_error};
@@ -22,7 +22,8 @@ use std::alloc::Global;
 use table_reads::{read_all, says};
 use table_rows::Tables;
 
-// How the tables differ from those of the nearest version. No error is one of the disk.
+// Returns the difference between the tables and the nearest version. An error is never a disk
+// error.
 fn nearest_difference<S: Alter>(alloc: Global, conn: &Connection<S>) -> Result<Difference, Error>
     requires { (v : OfVersion) → ¬ HasJust (state S.Store conn.now).now.schema (schema_of v) }
     ensures value { IfOk result (Differs (schema_of (nearest (state S.Store conn.now).now.schema))
@@ -34,16 +35,17 @@ fn nearest_difference<S: Alter>(alloc: Global, conn: &Connection<S>) -> Result<D
     Ok(schema_difference(alloc, schema, &ours)?)
 }
 
-/// Whose tables a database has.
+/// The version of a database.
 #[derive(Drop)]
 pub(crate) enum Standing {
-    /// Ours, of this version.
+    /// The tables are the tables of `version`.
     Ours { version: Version },
-    /// Those of no version of ours.
+    /// The tables aren't the tables of any schema version.
     NotOurs { difference: Difference },
 }
 
-// The tables' version, which their own row says too, or how they differ.
+// Returns the version whose tables the database has, if the row of `version` has its number, and
+// otherwise the difference.
 fn standing_of<S: Alter>(alloc: Global, conn: &mut Connection<S>) -> Result<Standing, Error>
     requires { conn.old.in_transaction ≡ false }
     ensures value { HasCleanDisk (state S.Store conn.new)
@@ -67,9 +69,12 @@ fn standing_of<S: Alter>(alloc: Global, conn: &mut Connection<S>) -> Result<Stan
     }
 }
 
-/// How the tables of a database differ from ours; none where they are ours, of any version. Nothing
-/// is changed, and a crash leaves what it could leave before. Errors: refused memory, and a device
-/// that fails.
+/// Returns the difference between the tables of a database and the nearest version, or `None` if
+/// they are the tables of a schema version. The database isn't changed, even by a crash.
+///
+/// # Errors
+///
+/// Fails only if an allocation fails or the device fails.
 pub fn find_difference<S: Alter>(
     alloc: Global,
     conn: &mut Connection<S>,
@@ -99,7 +104,7 @@ fn damage_of(failing: Option<Rule>) -> Option<Damage>
     failing.map(|rule| Damage::Broken { rule })
 }
 
-// The first rule that rows break. No error is one of the disk.
+// Returns the first audit rule that the rows break. An error is never a disk error.
 fn broken(alloc: Global, mut tables: Tables) -> Result<Option<Damage>, Error>
     ensures value { IfOk result (Judges tables) }
     ensures cause { IfErr result (λ e. is_disk_error e ≡ false) }
@@ -108,10 +113,13 @@ fn broken(alloc: Global, mut tables: Tables) -> Result<Option<Damage>, Error>
     Ok(damage_of(failing))
 }
 
-/// What is wrong with the rows of a database whose tables are ours, of any version; none where they
-/// are those of sound contents, or where the tables are not ours. It reads each table whole into
-/// memory. Nothing is changed, and a crash leaves what it could leave before. Errors: refused
-/// memory, and a device that fails.
+/// Returns the damage to the rows of a database, or `None` if they are the rows of sound contents
+/// or the tables aren't the tables of any schema version. All tables are read into memory
+/// completely. The database isn't changed, even by a crash.
+///
+/// # Errors
+///
+/// Fails only if an allocation fails or the device fails.
 pub fn find_damage<S: Alter>(
     alloc: Global,
     conn: &mut Connection<S>,

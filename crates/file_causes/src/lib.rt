@@ -1,4 +1,7 @@
-//! Why a database is refused: how its tables differ from ours, or which rule its rows break.
+//! Finds the cause for refusing a database: a difference of its tables, or the audit rule that its
+//! rows break.
+//!
+//! Only tests show that a search returns a result if nothing fails.
 #![tactic(auto)]
 
 mod damage;

@@ -1,4 +1,4 @@
-//! How a schema differs from ours.
+//! Finds the difference between the schema of a database and a schema version.
 ghost use Rattle.std.specs.Prelude.{◌≡◌, ◌↔◌, IfOk, IsTrue, MatchOption};
 ghost use Rattle.sqlite_catalog.specs.Change.{is_reserved};
 ghost use Rattle.sql_tables.specs.Alike.{AreAmong, HasJust, HasNoFurtherKey, IsOneOf};
@@ -14,7 +14,7 @@ use sqlite_schema::schema::{Index, Schema, Table};
 use sqlite_value::value::Bytes;
 use std::alloc::{AllocError, Global};
 
-// Whether a table has this name.
+// Returns `true` if a table has this name.
 fn has_table(schema: &Schema, name: &[u8]) -> bool
     ensures { result ≡ has_table schema.now name.now }
 {
@@ -25,7 +25,7 @@ fn has_table(schema: &Schema, name: &[u8]) -> bool
         .any(|table| same_name(table.name.as_slice(), name))
 }
 
-// Whether a view has this name.
+// Returns `true` if a view has this name.
 fn has_view(schema: &Schema, name: &[u8]) -> bool
     ensures { result ≡ has_view schema.now name.now }
 {
@@ -36,14 +36,14 @@ fn has_view(schema: &Schema, name: &[u8]) -> bool
         .any(|view| same_name(view.name.as_slice(), name))
 }
 
-// Whether anything with rows has this name.
+// Returns `true` if a view or a table has this name, even a table that isn't understood.
 fn is_taken(schema: &Schema, name: &[u8]) -> bool
     ensures { result ≡ is_taken schema.now name.now }
 {
     has_table(schema, name) || has_view(schema, name)
 }
 
-/// The version that a schema is compared with.
+/// Returns the version with which `schema` is compared.
 pub(crate) fn nearest(schema: &Schema) -> Version
     ensures { result ≡ nearest schema.now }
 {
@@ -65,7 +65,7 @@ fn is_one_of(table: &Table, others: &[Table]) -> bool
     others.iter().any(|other| are_same_but_tree(table, other))
 }
 
-// The first of these tables that is none of the others, but for its number.
+// Returns the first table that is different from all `others`. Tree numbers don't matter.
 #[tactic(auto, unfolding(sql_tables::specs::Alike::AreAmong))]
 fn first_unlike<'a>(tables: &'a [Table], others: &[Table]) -> Option<&'a Table>
     ensures { MatchOption result (AreAmong tables.now others.now)
@@ -79,7 +79,7 @@ fn first_unlike<'a>(tables: &'a [Table], others: &[Table]) -> Option<&'a Table>
     None
 }
 
-// Whether the name is one of those that SQLite gives.
+// Returns `true` if SQLite reserves the name for itself.
 fn is_reserved(name: &[u8]) -> bool
     ensures { result ≡ is_reserved name.now }
 {
@@ -92,7 +92,7 @@ fn is_no_further_key(index: &Index) -> bool
     !index.is_unique || is_reserved(index.name.as_slice())
 }
 
-// The first key beside those that tables declare.
+// Returns the first unique index that isn't declared by a table.
 #[tactic(auto, unfolding(sql_tables::specs::Alike::HasNoFurtherKey))]
 fn first_further_key(indexes: &[Index]) -> Option<&Index>
     ensures { MatchOption result (HasNoFurtherKey indexes.now)
@@ -106,14 +106,14 @@ fn first_further_key(indexes: &[Index]) -> Option<&Index>
     None
 }
 
-// The name of what stands in a schema.
+// Returns a copy of a name in the schema.
 fn copied(alloc: Global, name: &Bytes) -> Result<Vec<u8>, AllocError>
     ensures { IfOk result (λ copy. copy.items ≡ name.now) }
 {
     Vec::from_slice(alloc, name.as_slice())
 }
 
-// One of our tables isn't there.
+// Returns the difference for the table `table`, which the schema doesn't have.
 fn lacking(alloc: Global, schema: &Schema, table: &Table) -> Result<Difference, AllocError>
     ensures { IfOk result (Lacks schema.now table.now) }
 {
@@ -125,7 +125,7 @@ fn lacking(alloc: Global, schema: &Schema, table: &Table) -> Result<Difference, 
     }
 }
 
-/// How a schema differs from ours, where it does.
+/// Returns the difference between `schema` and `ours`, which are different.
 pub(crate) fn schema_difference(
     alloc: Global,
     schema: &Schema,

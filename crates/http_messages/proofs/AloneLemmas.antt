@@ -1,4 +1,4 @@
--- A head is judged in one way, and so bytes are heard as one thing.
+-- The tests of a head have one result, and therefore the bytes of a connection have one meaning.
 use Rattle.std.proofs.Common.{◌≡◌, ℕ, List, drop, take, Option, Some, None, Result, inl, inr, sym, ap, ◌∙◌}
 use Rattle.std.specs.Prelude.{nat_lt}
 use Rattle.std.proofs.lemmas.Bool.{cases_Bool}

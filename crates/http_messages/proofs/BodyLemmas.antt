@@ -1,4 +1,4 @@
--- A message's body.
+-- Lemmas about the body of a message.
 use Rattle.std.proofs.Common.{◌≡◌, ℕ, ◌+◌, ◌-◌, ◌<◌, ◌≤◌, List, [], ◌++◌, length, take, drop, Option, Some, None, refl, sym, ap, subst, ◌∙◌, arith, append-nil, length-take-le}
 use Rattle.std.specs.Prelude.{Bool, true, false, IfOk, IfSome, Result, Ok, Err, min}
 use Rattle.std.proofs.Math.Logic.{⊎_elim}
@@ -22,7 +22,7 @@ use Rattle.http_messages.proofs.EndLemmas.{least_alike, least_stays, size_kept}
 pub refl_length : (xs : List ℕ) → length xs ≡ length xs
 refl_length xs = refl
 
--- the bytes ended before so many came
+-- the bytes ended before `n` of them were read
 pub ended : (before now : Option (List ℕ)) (buf : List ℕ) (at n : ℕ) → at ≤ length buf → at < n → Consumes before now (take at buf) → IsAtEnd now → (more : List ℕ) × Agrees before more × (length more < n)
 ended None now buf at n within less came end = ([], tt, omega (arith, less))
 ended (Some xs) None buf at n within less came end = absurd came
@@ -31,19 +31,19 @@ ended (Some xs) (Some ys) buf at n within less came end =
     let size : length xs ≡ at = ap length all ∙ length-take-le at buf within in
     (xs, refl, omega (arith, size, less))
 
--- what is known of the bytes, by what came and what still comes
+-- if the bytes are known, they are the bytes read so far, followed by the remaining ones
 given : (before after : Option (List ℕ)) (front more : List ℕ) → Consumes before after front → Agrees after more → Agrees before (front ++ more)
 given None after front more came next = tt
 given (Some all) None front more came next = absurd came
 given (Some all) (Some rest) front more came next = came ∙ ap (λ (l : List ℕ). front ++ l) next
 
--- ---- a head among the bytes
+-- ---- the head
 
--- by where the head ends
+-- the meaning of the bytes, given the position after the head
 by_end : (bytes : List ℕ) (o : Option ℕ) (heard : Heard) → end_of_head bytes ≡ o → IsHeardBy bytes o heard → IsHeardAs bytes heard
 by_end bytes o heard is p = heard_as bytes heard (subst (λ (e : Option ℕ). IsHeardBy bytes e heard) (sym is) p)
 
--- a head that was found stays where it is
+-- further bytes don't change the end of a head that was found
 pub end_stays : (front more : List ℕ) (end : ℕ) → length front ≤ 8192 → head_end front ≡ Some end → end_of_head (front ++ more) ≡ Some end
 end_stays front more end few found =
     let n = 8192 - length front in
@@ -70,7 +70,7 @@ heard_large (Some all) (Some more) buf size came none =
     let many : length all ≡ 8192 + length more = ap length came ∙ length-append buf more ∙ ap (λ (n : ℕ). n + length more) size in
     (all, refl, by_end all None (Refused HeadTooLarge) (ap head_end front ∙ none) (grind (arith, nat_tests, many)))
 
--- what is read behind a head is what is read of all
+-- the result of reading the bytes after the head is the result of reading all bytes
 pub read_after : (bytes head rest : List ℕ) (end : ℕ) (r : Reading) → end_of_head bytes ≡ Some end → take end bytes ≡ head → drop end bytes ≡ rest → IsReadingAfter head rest r → IsReading bytes r
 read_after bytes head rest end (reading.Message m) is front back after =
     by_end bytes (Some end) (Brings (as_parts m)) is (after.0, subst (λ (h : List ℕ). IsJudged h after.0) (sym front) after.1, sym after.2 ∙ ap (after_head after.0) (sym back))
@@ -85,7 +85,8 @@ read_after bytes head rest end reading.Memory is front back after =
     let heard : Heard = after_head (Ok p) (drop end bytes) in
     ((end, p, is, passed), (heard, by_end bytes (Some end) heard is (Ok p, passed, refl)))
 
--- the same where the head's bytes and the first of the body's came, and more come
+-- the same result, if the head and the first bytes of the body are in `buf`, and the rest of the
+-- body is read later
 pub heard_head : (before after : Option (List ℕ)) (buf : List ℕ) (end filled : ℕ) (r : Reading) → length buf ≡ 8192 → end ≤ filled → filled ≤ 8192 → Consumes before after (take filled buf)
     → head_end (take filled buf) ≡ Some end → ((more : List ℕ) × Agrees after more × IsReadingAfter (take end buf) (take (filled - end) (drop end buf) ++ more) r)
     → (bytes : List ℕ) × Agrees before bytes × IsReading bytes r
@@ -100,9 +101,9 @@ heard_head before after buf end filled r size within few came found read =
     let is : IsReading bytes r = read_after bytes (take end buf) (take (filled - end) (drop end buf) ++ read.0) end r (end_stays front read.0 end (omega (arith, long, few)) found) head back read.2 in
     (bytes, given before after front read.0 came read.1, is)
 
--- ---- a body
+-- ---- the body
 
--- those that came with the head and the piece that came then are the body
+-- the body consists of the bytes that were read with the head and the piece that was read later
 whole_is : (size here : ℕ) (all piece rest : List ℕ) → here ≡ min size (length all) → length piece ≡ size - length (take here all) → take here all ++ piece ≡ take size (all ++ (piece ++ rest))
 whole_is size here all piece rest is fits = ⊎_elim
     (λ (few : length all < size).
@@ -116,23 +117,23 @@ whole_is size here all piece rest is fits = ⊎_elim
     ap (λ (xs : List ℕ). xs ++ piece) begun ∙ ap (λ (xs : List ℕ). take size all ++ xs) (nil_from_length piece count) ∙ append-nil (take size all) ∙ sym (take-append-le size all (piece ++ rest) many))
     (cases_lt (length all) size)
 
--- a piece that fills the end
+-- a piece that fills the rest of the body
 filled_end : (n size : ℕ) (body begun piece : List ℕ) → length body ≡ size → take n body ≡ begun → put_mid n (size - n) body piece ≡ begun ++ piece
 filled_end n size body begun piece is front =
     let none : post_of n (size - n) body ≡ [] = nil_from_length (post_of n (size - n) body) (omega (arith, length-drop (size - n) (drop n body), length-drop n body, is)) in
     ap (λ (xs : List ℕ). xs ++ (piece ++ post_of n (size - n) body)) front ∙ ap (λ (xs : List ℕ). begun ++ (piece ++ xs)) none ∙ ap (λ (xs : List ℕ). begun ++ xs) (append-nil piece)
 
--- what still came, in front of what still comes
+-- the bytes are the piece that was read, followed by the remaining bytes
 rest_of : (before after : Option (List ℕ)) (piece : List ℕ) → Consumes before after piece → (rest : List ℕ) × Agrees before (piece ++ rest)
 rest_of None after piece came = ([], tt)
 rest_of (Some all) None piece came = absurd came
 rest_of (Some all) (Some rest) piece came = (rest, came)
 
--- how many came with the head
+-- the number of bytes of the body that were read with the head
 here_few : (size here : ℕ) (all : List ℕ) → here ≡ min size (length all) → length (take here all) ≡ here
 here_few size here all is = length-take-le here all (omega (arith, is, min-le_right size (length all)))
 
--- the body came whole, or it did not
+-- the body is complete, or the bytes ended too early
 pub body_filled : (before after : Option (List ℕ)) (size here : ℕ) (all piece body : List ℕ) (whole : Bool) → here ≡ min size (length all) → length body ≡ size → take (length (take here all)) body ≡ take here all
     → length piece ≡ size - length (take here all) → OnTrue whole (Consumes before after piece) → OnFalse whole ((more : List ℕ) × Agrees before more × (length more < length piece))
     → (more : List ℕ) × Agrees before more × IsFilled (put_mid (length (take here all)) (size - length (take here all)) body piece) (all ++ more) whole
@@ -161,7 +162,7 @@ body_filled before after size here all piece body false is fits front count came
     (cases_lt (length all) size) in
     (more, early.1, omega (arith, long, lacks))
 
--- ---- what is read behind a head
+-- ---- the result of reading after a head
 
 pub some_bytes : (known : Option (List ℕ)) → (more : List ℕ) × Agrees known more
 some_bytes None = ([], tt)

@@ -1,4 +1,4 @@
--- Where a head ends.
+-- Lemmas about the end of a head.
 use Rattle.std.proofs.Common.{◌≡◌, ℕ, zero, suc, ◌+◌, ◌-◌, ◌<◌, ◌≤◌, Bool, true, cond, List, ◌++◌, length, take, drop, Option, Some, None, codes, sym, ap, subst, ◌∙◌, arith}
 use Rattle.std.specs.Prelude.{IfSome, nat_eq}
 use Rattle.std.specs.List.{ends_with}
@@ -30,7 +30,7 @@ least_stays p n k m within found = let same : n + (k - n) ≡ k = omega arith in
 pub found_at : (bytes : List ℕ) (at : ℕ) → at + 1 ≤ length bytes → least (ends_head bytes) at ≡ None → ends_head bytes (at + 1) ≡ true → head_end bytes ≡ Some (at + 1)
 found_at bytes at within before here = least_stays (ends_head bytes) (at + 1) (length bytes) (at + 1) within (least_more (ends_head bytes) at true before here)
 
--- ---- bytes that come in pieces
+-- ---- bytes that arrive in pieces
 
 ends_alike : (xs ys : List ℕ) (n : ℕ) → take n xs ≡ take n ys → ends_head xs n ≡ ends_head ys n
 ends_alike xs ys n same = ap (λ front. ends_with nat_eq front (codes "\r\n\r\n")) same
@@ -40,13 +40,13 @@ less_alike xs ys n same =
     let fewer : n ≤ suc n = omega arith in
     sym (take-take n (suc n) xs fewer) ∙ ap (take n) same ∙ take-take n (suc n) ys fewer
 
--- where a head ends among the first n bytes is seen from these alone
+-- the end of a head within the first `n` bytes depends only on these bytes
 pub least_alike : (xs ys : List ℕ) (n : ℕ) → take n xs ≡ take n ys → least (ends_head xs) n ≡ least (ends_head ys) n
 least_alike xs ys zero same = ap (λ b. cond b (Some zero) None) (ends_alike xs ys zero same)
 least_alike xs ys (suc n) same =
     (λ i. option_or (least_alike xs ys n (less_alike xs ys n same) i) (cond (ends_alike xs ys (suc n) same i) (Some (suc n)) None))
 
--- a buffer of which one more piece is filled
+-- the filled part of a buffer after one more piece was read into it
 pub take_filled : (at n size : ℕ) (buf piece : List ℕ) → length buf ≡ size → at ≤ size → n ≤ length piece → take (at + n) (put_mid at (size - at) buf piece) ≡ take at buf ++ take n piece
 take_filled at n size buf piece is within fits =
     let front = take at buf in
@@ -59,7 +59,7 @@ front_kept at size buf piece is within =
     let none : at + 0 ≡ at = omega arith in
     ap (λ (m : ℕ). take m (put_mid at (size - at) buf piece)) (sym none) ∙ take_filled at 0 size buf piece is within (omega arith) ∙ append-nil (take at buf)
 
--- and that is as long as before
+-- reading a piece into a buffer doesn't change the buffer's length
 pub size_kept : (at size : ℕ) (buf piece : List ℕ) → length buf ≡ size → at ≤ size → length piece ≡ size - at → length (put_mid at (size - at) buf piece) ≡ size
 size_kept at size buf piece is within fits = omega (
   arith,
@@ -83,7 +83,7 @@ none_so_far buf n within none =
 pub none_at_all : (buf : List ℕ) (n : ℕ) → n ≤ length buf → length buf ≤ n → least (ends_head buf) n ≡ None → head_end buf ≡ None
 none_at_all buf n within over none = let whole : length buf ≡ n = omega arith in ap (least (ends_head buf)) whole ∙ none
 
--- all that comes is what came
+-- if the bytes ended, the filled part of the buffer has all of them, and no head ends in it
 pub broken : (before after : Option (List ℕ)) (buf : List ℕ) (filled : ℕ) → filled ≤ length buf → filled < 8192 → Consumes before after (take filled buf) → IsAtEnd after
     → least (ends_head buf) filled ≡ None → IfSome before (λ all. (length all < 8192) × (head_end all ≡ None))
 broken None after buf filled within few came end none = tt

@@ -1,4 +1,4 @@
--- The judgement of a head.
+-- Lemmas about the tests of a head.
 use Rattle.std.proofs.Common.{◌≡◌, ℕ, ◌+◌, ◌*◌, ◌-◌, ◌<◌, Bool, true, false, cond, List, [], ◌∷◌, ◌++◌, length, take, map, Some, codes, append-nil, refl, sym, ap, ◌∙◌, arith}
 use Rattle.std.specs.Prelude.{◌||◌, Err, filter, min, slice_get, slice_index}
 use Rattle.std.specs.Char.{digit_value, is_ascii_digit}

@@ -4,4 +4,5 @@ pub mod LineLemmas
 pub mod EndLemmas
 pub mod AloneLemmas
 pub mod BodyLemmas
+pub mod SettledLemmas
 pub mod SentHeads

@@ -1,4 +1,4 @@
--- A head has at least a line end for each of its fields.
+-- A head has at least one line end for each of its fields.
 use Rattle.std.proofs.Common.{◌≡◌, ℕ, ◌+◌, ◌≤◌, ◌==◌, ◌&&◌, Bool, true, false, cond, not, List, [], ◌∷◌, ◌++◌, length, map, take, drop, inl, inr, refl, sym, ap, subst, ◌∙◌, arith, append-nil}
 use Rattle.std.specs.Prelude.{⊤, Err, nat_lt, sum_by, Result}
 use Rattle.std.specs.List.{flat_map}
@@ -53,7 +53,7 @@ fields_have_lfs (f ∷ fields) = omega (
   fields_have_lfs fields,
 )
 
--- what stands before the fields
+-- the part of a head before its fields
 abbrev before_fields : RequestHead → List ℕ
 before_fields h = print_blank h.blank ++ h.method ++ space ∷ h.target ++ space ∷ print_version h.minor ++ print_end h.line_end
 
@@ -87,14 +87,14 @@ judged_read head result whole few h reads each = record {
   either = λ _ _. inl (h, reads, each h reads (omega (arith, few_fields head h reads, few_pairs head whole few)));
 }
 
--- what the parts of a head that was read ask for
+-- the parts that were found in `head` are the parts of `h`
 pub parts_are : (head : List ℕ) (headers : List HeaderSpan) (spans : RequestSpans) (h : RequestHead) (r : Result ℕ FixedReply) → IsRequestAt head headers spans h
     → r ≡ body_size (map (header_bytes head) (take spans.headers headers))
     → sized (span_bytes head spans.method) (span_bytes head spans.path) r ≡ parts_of h
 parts_are head headers spans h r at is =
     (λ i. sized (at.method i) (at.path i) (is i)) ∙ ap (λ fields. sized h.method h.target (body_size fields)) at.fields
 
--- a head that takes all of its bytes
+-- if a head is as long as the bytes, no bytes follow it
 pub whole_head : (head : List ℕ) (h : RequestHead) (size : ℕ) → ReadsRequest head h (drop size head) → size ≡ length head → ReadsRequest head h []
 whole_head head h size reads whole = subst (ReadsRequest head h) (ap (λ n. drop n head) whole ∙ drop-length head) reads
 

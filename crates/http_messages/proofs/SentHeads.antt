@@ -1,5 +1,5 @@
--- The head of a request that is sent: where it ends, what it is judged, and what is heard with its
--- body.
+-- Lemmas about the head of a request that a client sends: its end, the result of its tests, and its
+-- meaning together with a body.
 use Rattle.std.proofs.Common.{◌≡◌, ◌<◌, ◌≤◌, ◌+◌, ◌-◌, ◌^◌, ◌==◌, ℕ, zero, suc, Bool, true, false, cond, List, [], ◌∷◌, ◌++◌, length, take, drop, reverse, get_or, Option, Some, None, inl, inr, refl, sym, ap, subst, ◌∙◌, codes, decimal, arith, append_assoc, append-nil, length-append, length-drop, length-take-le}
 use Rattle.std.specs.Prelude.{◌&&◌, not, nat_eq, nat_lt, nat_le, slice_index, Ok}
 use Rattle.std.specs.List.{ends_with, list_all}
@@ -33,7 +33,7 @@ use Rattle.http_messages.proofs.BodyLemmas.{end_stays}
 use Rattle.http_messages.proofs.EndLemmas.{found_at}
 use Rattle.http_messages.proofs.LineLemmas.{judged_read}
 
--- ---- visible bytes: no space, line end or control byte
+-- ---- visible characters, which exclude spaces, line ends and control characters
 
 abbrev are_seen : List ℕ → Bool
 are_seen xs = list_all is_visible xs
@@ -95,9 +95,9 @@ digits_are_digits (d ∷ ds) h = ap (λ (t : Bool). t && list_all is_ascii_digit
 decimal_is_seen : (n : ℕ) → n < 2 ^ 64 → are_seen (decimal n) ≡ true
 decimal_is_seen n h = digits_are_seen (decimal n) (decimal_is_IsNumeral n h).0.1
 
--- ---- tests that go over a head pass over what is seen
+-- ---- visible characters don't affect the tests of line ends
 
--- no CR stands right behind an LF, from here on, behind an LF or not
+-- no CR directly follows an LF; `lf` is true if the bytes follow an LF
 calm_after : Bool → List ℕ → Bool
 calm_after lf [] = true
 calm_after lf (b ∷ bytes) = not (lf && (b == 13)) && calm_after (b == 10) bytes
@@ -124,12 +124,12 @@ pairs_skip (b ∷ xs) ys h =
     let parts = and_parts (is_visible b) (list_all is_visible xs) h in
     (λ i. cond (seen_is_no_lf b parts.0 i && false) 1 0 + pairs_after (seen_is_no_cr b parts.0 i) (xs ++ ys)) ∙ zero_more (pairs_after false (xs ++ ys)) ∙ pairs_skip xs ys parts.1
 
--- ---- a head by its target and its size
+-- ---- the head with a given path and size of the body
 
 size_line : List ℕ
 size_line = codes " HTTP/1.1\r\nHost: localhost\r\nContent-Length: "
 
--- without the line end that is last
+-- the head without the line end at its end
 front : List ℕ → List ℕ → List ℕ
 front target digits = codes "POST " ++ (target ++ (size_line ++ (digits ++ codes "\r\n")))
 
@@ -160,7 +160,7 @@ four_pairs target digits t d =
     let all : pairs (laid target digits) ≡ 4 = omega (arith, first, second) in
     ap (nat_lt 34) all
 
--- ---- where it ends
+-- ---- the end of the head
 
 none_up_to : (p : ℕ → Bool) (n : ℕ) → ((k : ℕ) → k ≤ n → p k ≡ false) → least p n ≡ None
 none_up_to p zero h = ap (λ (b : Bool). cond b (Some zero) None) (h zero (omega arith))
@@ -168,7 +168,7 @@ none_up_to p (suc n) h =
     ap (λ (o : Option ℕ). option_or o (cond (p (suc n)) (Some (suc n)) None)) (none_up_to p n (λ k le. h k (omega (arith, le))))
     ∙ ap (λ (b : Bool). cond b (Some (suc n)) None) (h (suc n) (omega arith))
 
--- no CR behind an LF, by their places
+-- if no CR directly follows an LF, then no position has an LF that is followed by a CR
 calm_at : (lf : Bool) (xs : List ℕ) → calm_after lf xs ≡ true → (i : ℕ) → i + 1 < length xs → slice_index xs i ≡ 10 → slice_index xs (i + 1) ≡ 13 → ⊥
 unfolding calm_after
 calm_at lf [] h i lt is then = absurd (omega (arith, lt))
@@ -229,7 +229,7 @@ laid_ends target digits t d =
     let here : ends_head (laid target digits) (length xs + 1 + 1) ≡ true = ap (ends_head (laid target digits)) one ∙ ends_at_last (laid target digits) (codes "POST " ++ (target ++ (size_line ++ digits))) (last_laid target digits) in
     found_at (laid target digits) (length xs + 1) (omega (arith, long)) none here ∙ ap (λ (n : ℕ). Some n) one
 
--- ---- by the grammar
+-- ---- the head in the grammar of HTTP/1.1
 
 host : Field
 host = record { name = codes "Host"; raw = codes " localhost"; end = crlf }
@@ -293,7 +293,7 @@ judged target n t some fits =
     judged_read (laid target (decimal n)) (Ok (record { method = codes "POST"; target = target; size = n })) (no_bare target (decimal n) t d) (four_pairs target (decimal n) t d) (tree target (decimal n)) own
     (λ h other few. sym (tree_parts target n fits) ∙ ap parts_of (request_unique (laid target (decimal n)) (tree target (decimal n)) h [] [] own other).0)
 
--- ---- a whole message
+-- ---- a complete message
 
 is_heard : (target body : List ℕ) → are_seen target ≡ true → 0 < length target → length (request_head target (length body)) ≤ 8192 → length body ≤ most_input
     → IsHeard (request_head target (length body) ++ body) (Brings (posted target body))

@@ -1,4 +1,4 @@
--- The replies that are fixed (this project's profile): they change nothing, and are never kept.
+-- The fixed responses, which change nothing and are never kept (this project's profile).
 use Rattle.std.specs.Prelude.{ℕ, List, codes}
 use Rattle.http_messages.specs.declared.fixed.FixedReply.{FixedReply}
 use Rattle.http_messages.specs.declared.fixed.FixedReply.TheVariants.{Malformed, NoRoute, OnlyMethod, TooLarge, HeadTooLarge, Storage}
@@ -30,6 +30,6 @@ body_of TooLarge = codes "{\"code\":413,\"refused\":\"too-large\"}"
 body_of HeadTooLarge = codes "{\"code\":431,\"refused\":\"head-too-large\"}"
 body_of Storage = codes "{\"code\":503,\"refused\":\"storage\"}"
 
--- the bytes of a fixed reply
+-- the bytes of the fixed response for `why`
 abbrev pub refusal_text : FixedReply → List ℕ
 refusal_text why = reply_text (status_of why) (kind_of why) (body_of why)

@@ -1,4 +1,4 @@
--- What the parts of the judgement of a head answer.
+-- The results of the functions that test a head.
 use Rattle.std.specs.Prelude.{◌≤◌, IfSome, Option, Some, None, length, ℕ, List, [], ◌∷◌, filter, Result, Ok, Err}
 use Rattle.httparse.specs.declared.spans.HeaderSpan.{HeaderSpan}
 use Rattle.httparse.specs.declared.spans.RequestSpans.{RequestSpans}
@@ -15,7 +15,7 @@ abbrev pub parts : Result PartsValue FixedReply → Result HeadParts FixedReply
 parts (Ok a) = Ok (record { method = a.method.now; target = a.target.now; size = a.size })
 parts (Err why) = Err why
 
--- none, one, or more values, as far as it matters how many there are
+-- no value, one value, or several, which aren't listed because several are never accepted
 pub data Values : Type 0 where
   none : Values
   one : List ℕ → Values
@@ -31,7 +31,7 @@ counted [] = none
 counted (f ∷ []) = one f.1
 counted (f ∷ g ∷ more) = many
 
--- the values of the fields of a name
+-- the values of the fields with the name `name`
 abbrev pub values : List ℕ → List Pair → Values
 values name fields = counted (filter (is_named name) fields)
 
@@ -45,18 +45,19 @@ size_by none = Ok 0
 size_by (one value) = size_text value
 size_by many = Err Malformed
 
--- by the values of the coding and of the size
+-- the size of the body, given the values of `Transfer-Encoding` and of `Content-Length`
 abbrev pub size_after : Values → Values → Result ℕ FixedReply
 size_after none size = size_by size
 size_after (one value) size = Err Malformed
 size_after many size = Err Malformed
 
--- the parts of this head were found
+-- the spans were found, and they are the parts of the head `h`
 abbrev pub FindsAt : List ℕ → List HeaderSpan → RequestHead → Option RequestSpans → Type 0
 FindsAt head headers h None = ⊥
 FindsAt head headers h (Some spans) = IsRequestAt head headers spans h
 
--- the parts of the head at the front, which has room for so many fields
+-- `found` has the parts of the head that `head` starts with, and it isn't `None` if that head has
+-- at most `room` fields
 pub record IsRead (head : List ℕ) (room : ℕ) (headers : List HeaderSpan) (found : Option RequestSpans) : Type 0 where
   pub within : IfSome found (IsRequestWithin head headers)
   pub is : IfSome found (IsRequestOf head headers)

@@ -5,5 +5,6 @@ pub mod HeadTests
 pub mod PieceBytes
 pub mod HeadEnd
 pub mod Messages
+pub mod Progresses
 pub mod RequestHeads
 pub mod ReplyParts

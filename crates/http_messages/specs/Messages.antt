@@ -1,5 +1,5 @@
--- Messages: HTTP/1.1 (RFC 9112), as this project's profile takes them, by the whole bytes of a
--- connection.
+-- The meaning of all the bytes of a connection: HTTP/1.1 messages (RFC 9112), restricted by this
+-- project's profile.
 use Rattle.std.specs.Prelude.{◌≡◌, ◌<◌, ◌≤◌, ℕ, nat_lt, Bool, true, false, if◌then◌else◌, List, length, take, drop, Option, Some, None, Result, Ok, Err}
 pub use Rattle.text_io.specs.Inputs.{Agrees}
 use Rattle.http_messages.specs.declared.message.Message.{Message}
@@ -9,29 +9,30 @@ use Rattle.http_messages.specs.declared.fixed.FixedReply.{FixedReply}
 use Rattle.http_messages.specs.declared.fixed.FixedReply.TheVariants.{HeadTooLarge}
 use Rattle.http_messages.specs.Heads.{HeadParts, IsJudged, head_end}
 
--- what a message brings
+-- the method, the path and the body of a message
 pub record MessageParts : Type 0 where
   pub method : List ℕ
   pub target : List ℕ
   pub body : List ℕ
 
--- what the bytes of a connection are
+-- the bytes end too early, are refused with a fixed response, or contain a message
 pub data Heard : Type 0 where
   Broken : Heard
   Refused : FixedReply → Heard
   Brings : MessageParts → Heard
 
--- a head that passes its tests, or the first that it fails, before these bytes
+-- the meaning of a head with this test result that is followed by the bytes `rest`
 abbrev pub after_head : Result HeadParts FixedReply → List ℕ → Heard
 after_head (Ok p) rest =
     if nat_lt (length rest) p.size then Broken else Brings (record { method = p.method; target = p.target; body = take p.size rest })
 after_head (Err why) rest = Refused why
 
--- a head ends within the first 8,192 bytes
+-- the position after the head, if it ends within the first 8,192 bytes
 abbrev pub end_of_head : List ℕ → Option ℕ
 end_of_head bytes = head_end (take 8192 bytes)
 
--- by where the head ends; what comes after the message is ignored
+-- `heard` is the meaning of `bytes`, given the position after the head; bytes after the message are
+-- ignored
 abbrev pub IsHeardBy : List ℕ → Option ℕ → Heard → Type 0
 IsHeardBy bytes None heard = heard ≡ (if nat_lt (length bytes) 8192 then Broken else Refused HeadTooLarge)
 IsHeardBy bytes (Some end) heard = (judged : Result HeadParts FixedReply) × IsJudged (take end bytes) judged × (heard ≡ after_head judged (drop end bytes))
@@ -39,40 +40,41 @@ IsHeardBy bytes (Some end) heard = (judged : Result HeadParts FixedReply) × IsJ
 abbrev pub IsHeard : List ℕ → Heard → Type 0
 IsHeard bytes heard = IsHeardBy bytes (end_of_head bytes) heard
 
--- and as nothing else
+-- `heard` is the only meaning of `bytes`
 pub record IsHeardAs (bytes : List ℕ) (heard : Heard) : Type 0 where
   pub is : IsHeard bytes heard
   pub alone : (other : Heard) → IsHeard bytes other → other ≡ heard
 
--- a head is there, and passes its tests
+-- `bytes` starts with a complete head that passes its tests
 abbrev pub HasHead : List ℕ → Type 0
 HasHead bytes = (end : ℕ) × (p : HeadParts) × (end_of_head bytes ≡ Some end) × IsJudged (take end bytes) (Ok p)
 
--- ---- what the code calls them
+-- ---- results of the code
 
 abbrev pub as_parts : Message → MessageParts
 as_parts m = record { method = m.method; target = m.target; body = m.body }
 
--- memory is only wanted for what follows a head; the bytes are something all the same
+-- the result is the only meaning of `bytes`, or out of memory after a head that passes its tests;
+-- even then `bytes` has a meaning
 abbrev pub IsReading : List ℕ → Reading → Type 0
 IsReading bytes (reading.Message m) = IsHeardAs bytes (Brings (as_parts m))
 IsReading bytes reading.Broken = IsHeardAs bytes Broken
 IsReading bytes (reading.Refused why) = IsHeardAs bytes (Refused why)
 IsReading bytes reading.Memory = HasHead bytes × ((h : Heard) × IsHeardAs bytes h)
 
--- ---- on the way
+-- ---- intermediate results
 
--- the body of this size in front of these bytes, if so many came
+-- the body is the first `size` bytes of `rest`, or `None` if `rest` has fewer
 abbrev pub IsBody : ℕ → List ℕ → Option (List ℕ) → Type 0
 IsBody size rest None = length rest < size
 IsBody size rest (Some body) = (size ≤ length rest) × (body ≡ take size rest)
 
--- the body is in front of these bytes, or too few came
+-- if the result is true, `rest` starts with `body`; otherwise `rest` is too short
 abbrev pub IsFilled : List ℕ → List ℕ → Bool → Type 0
 IsFilled body rest true = (length body ≤ length rest) × (body ≡ take (length body) rest)
 IsFilled body rest false = length rest < length body
 
--- what is read behind a head
+-- the result of reading `rest` after a head with the test result `judged`
 abbrev pub IsReadingBy : Result HeadParts FixedReply → List ℕ → Reading → Type 0
 IsReadingBy judged rest (reading.Message m) = after_head judged rest ≡ Brings (as_parts m)
 IsReadingBy judged rest reading.Broken = after_head judged rest ≡ Broken

@@ -1,7 +1,7 @@
--- What a connection in memory brings.
+-- The bytes of a connection in memory.
 use Rattle.std.specs.Prelude.{ℕ, List}
 use Rattle.http_messages.specs.declared.source.Pieces.{Pieces}
 
--- the bytes that still come
+-- the remaining bytes of `p`
 abbrev pub bytes_of : Pieces → List ℕ
 bytes_of p = p.bytes.now

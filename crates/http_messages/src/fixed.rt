@@ -1,29 +1,29 @@
-//! Fixed replies, to messages that ask for nothing or can't be answered.
+//! The fixed responses to messages that contain no valid request or can't be processed.
 ghost use Rattle.std.specs.Prelude.{◌≡◌};
 ghost use Rattle.http_messages.specs.FixedReplies.{body_of, kind_of, status_of};
 
 use crate::reply::{Content, Method};
 use http::StatusCode;
 
-/// Why a message is answered by a fixed reply (this project's profile).
+/// The reason for a fixed response (this project's profile).
 #[derive(Clone, Copy, Debug, PartialEq, Eq)]
 pub enum FixedReply {
-    /// The head, a name, a number or the JSON isn't as it has to be: 400.
+    /// An invalid head, name, request number or JSON body (status 400).
     Malformed,
-    /// The target is none that is served: 404.
+    /// A path that the server doesn't serve (status 404).
     NoRoute,
-    /// The target has another method: 405.
+    /// A method other than the given one, which is the only method of the path (status 405).
     OnlyMethod(Method),
-    /// The body has over `MOST_INPUT` bytes: 413.
+    /// A body of more than `MOST_INPUT` bytes (status 413).
     TooLarge,
-    /// The head has over 8,192 bytes, or over 34 pairs CR LF: 431.
+    /// A head of more than 8,192 bytes, or with more than 34 pairs CR LF (status 431).
     HeadTooLarge,
-    /// The store failed, or memory was refused: 503.
+    /// A fault of the store, or a failed allocation (status 503).
     Storage,
 }
 
 impl FixedReply {
-    /// The status of the reply (RFC 9110 section 15; RFC 6585 section 5).
+    /// Returns the status code of the response (RFC 9110 section 15; RFC 6585 section 5).
     pub fn status(self) -> u16
         ensures { result ≡ status_of self }
     {
@@ -38,7 +38,7 @@ impl FixedReply {
         status.as_u16()
     }
 
-    /// What the reply carries.
+    /// Returns the kind of the response's content.
     pub fn kind(self) -> Content
         ensures { result ≡ kind_of self }
     {
@@ -48,7 +48,7 @@ impl FixedReply {
         }
     }
 
-    /// The reply's body.
+    /// Returns the body of the response.
     pub fn body(self) -> &'static [u8]
         ensures { result.now ≡ body_of self }
     {

@@ -1,5 +1,5 @@
-//! Heads of messages: HTTP/1.1 (RFC 9112), as this project's profile takes them. No test takes
-//! memory.
+//! Tests the head of a message: HTTP/1.1 (RFC 9112), restricted by this project's profile. The
+//! tests allocate nothing.
 ghost use Rattle.std.specs.Prelude.{◌≡◌, ◌+◌, ◌&&◌, All, length, map, min, nat_lt, true};
 ghost use Rattle.std.specs.List.{list_all};
 ghost use Rattle.std.specs.Char.{is_ascii_digit};
@@ -15,14 +15,14 @@ use httparse::Status;
 use httparse::spans::{EMPTY_HEADER_SPAN, HeaderSpan, RequestSpans, parse_request};
 use text_io::{MOST_INPUT, are_digits};
 
-/// The most bytes of a body.
+/// The maximum size of a body, in bytes.
 const MOST_BODY: usize = MOST_INPUT as usize;
 
-/// The most pairs CR LF of a head: its first line, 32 header lines and its end (this project's
-/// profile).
+/// The maximum number of pairs CR LF in a head: the request line, 32 header lines and the empty
+/// line at the end (this project's profile).
 const MOST_PAIRS: usize = 34;
 
-/// What a head asks for, and the size of the body that comes.
+/// The method and the path of a head, and the size of its body.
 #[derive(Clone, Copy)]
 pub(crate) struct HeadParts<'a> {
     pub method: &'a [u8],
@@ -30,7 +30,7 @@ pub(crate) struct HeadParts<'a> {
     pub size: usize,
 }
 
-// The values of the fields of a name: none, one, or more.
+// The values of the fields with the same name: no value, one, or several.
 #[derive(Clone, Copy)]
 enum Found<'a> {
     None,
@@ -38,7 +38,18 @@ enum Found<'a> {
     Many,
 }
 
-/// What a whole head asks for, or the first test that it fails.
+/// Returns the parts of the complete head `head`.
+///
+/// # Errors
+///
+/// Returns the fixed response of the first item that applies:
+///
+/// - `Malformed`: `head` contains an LF without a CR before it.
+/// - `HeadTooLarge`: `head` contains more than 34 pairs CR LF.
+/// - `Malformed`: the whole of `head` doesn't match the grammar of HTTP/1.1 (RFC 9112).
+/// - `Malformed`: `head` has a field `Transfer-Encoding`, several fields `Content-Length`, or a
+///   `Content-Length` that isn't a decimal number.
+/// - `TooLarge`: `Content-Length` is larger than `MOST_BODY`.
 pub(crate) fn judge(head: &[u8]) -> Result<HeadParts<'_>, FixedReply>
     ensures { IsJudged head.now (parts result) }
 {
@@ -63,7 +74,8 @@ pub(crate) fn judge(head: &[u8]) -> Result<HeadParts<'_>, FixedReply>
     })
 }
 
-// The parts of the head at the front, if there is one with room for its fields.
+// Returns the parts of the head that `head` starts with, or `None` if that head is invalid or has
+// more fields than `headers` can hold.
 fn read(head: &[u8], headers: &mut [HeaderSpan]) -> Option<RequestSpans>
     ensures { IsRead head.now (length headers.old) headers.new result }
 {
@@ -76,7 +88,7 @@ fn read(head: &[u8], headers: &mut [HeaderSpan]) -> Option<RequestSpans>
     }
 }
 
-// Whether an LF stands where no CR precedes it.
+// Returns `true` if `head` contains an LF without a CR before it.
 fn has_bare_lf(head: &[u8]) -> bool
     ensures { result ≡ has_bare_lf head.now }
 {
@@ -90,7 +102,7 @@ fn has_bare_lf(head: &[u8]) -> bool
     false
 }
 
-// How many pairs CR LF there are.
+// Returns the number of pairs CR LF in `head`.
 fn pairs(head: &[u8]) -> usize
     ensures { result ≡ pairs head.now }
 {
@@ -105,7 +117,7 @@ fn pairs(head: &[u8]) -> usize
     pairs
 }
 
-// The size of the body that comes after a head with these fields.
+// Returns the size of the body after a head with the fields `headers` (RFC 9112 section 6.3).
 #[tactic(auto, using(crate::proofs::HeadLemmas::body_size_by))]
 fn body_size(head: &[u8], headers: &[HeaderSpan]) -> Result<usize, FixedReply>
     requires { All (IsHeaderWithin (length head.now)) headers.now }
@@ -117,7 +129,7 @@ fn body_size(head: &[u8], headers: &[HeaderSpan]) -> Result<usize, FixedReply>
     }
 }
 
-// The size that these values give.
+// Returns the size of the body, given the values of `Content-Length`.
 fn size_by(found: Found<'_>) -> Result<usize, FixedReply>
     ensures { result ≡ size_by (found_of found.entry) }
 {
@@ -128,8 +140,8 @@ fn size_by(found: Found<'_>) -> Result<usize, FixedReply>
     }
 }
 
-// The values of the fields of a name, which are compared without regard to ASCII case (RFC 9110
-// section 5.1).
+// Returns the values of the fields with the name `name`. Names are compared without regard to ASCII
+// case (RFC 9110 section 5.1).
 fn find_named<'a>(head: &'a [u8], headers: &[HeaderSpan], name: &[u8]) -> Found<'a>
     requires { All (IsHeaderWithin (length head.now)) headers.now }
     ensures { found_of result ≡ values name.now (map (header_bytes head.now) headers.now) }
@@ -150,7 +162,7 @@ fn is_named(head: &[u8], header: &HeaderSpan, name: &[u8]) -> bool
     header.name.of(head).eq_ignore_ascii_case(name)
 }
 
-// With one more value.
+// Adds `value` to the values in `found`.
 fn found_more<'a>(found: Found<'a>, value: &'a [u8]) -> Found<'a>
     ensures { found_of result ≡ one_more (found_of found.entry) value.now }
 {
@@ -160,7 +172,8 @@ fn found_more<'a>(found: Found<'a>, value: &'a [u8]) -> Found<'a>
     }
 }
 
-// One or more decimal digits, of at most the most bytes of a body.
+// Returns the number in `text`, the value of `Content-Length` (RFC 9110 section 8.6): one or more
+// decimal digits, at most `MOST_BODY`.
 #[tactic(auto, unfolding(crate::specs::Heads::size_text))]
 fn size_text(text: &[u8]) -> Result<usize, FixedReply>
     ensures { result ≡ size_text text.now }
@@ -181,7 +194,7 @@ fn is_decimal(text: &[u8]) -> bool
     !text.is_empty() && are_digits(text)
 }
 
-// The number of decimal digits, or one more than the most where it is larger.
+// Returns the number that `digits` stand for, or `MOST_BODY + 1` if it is larger than `MOST_BODY`.
 fn capped(digits: &[u8]) -> usize
     requires { list_all is_ascii_digit digits.now ≡ true }
     ensures { result ≡ min (digits_value 10 digits.now) (most_input + 1) }

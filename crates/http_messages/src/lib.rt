@@ -1,5 +1,5 @@
-//! Messages over HTTP/1.1 (RFC 9112): the bytes of a connection as a message, and a reply's bytes
-//! before its body.
+//! Parses the bytes of a connection as an HTTP/1.1 message (RFC 9112), and writes the heads of
+//! responses and requests.
 #![tactic(auto)]
 
 mod fixed;
@@ -9,6 +9,7 @@ mod parts;
 mod reading;
 mod reply;
 mod request_head;
+mod settled;
 mod source;
 
 pub use fixed::FixedReply;
@@ -16,4 +17,5 @@ pub use message::{Message, Reading, read_message};
 pub use parts::reply_parts;
 pub use reply::{Content, Method, reply_head};
 pub use request_head::push_request_head;
+pub use settled::{MOST_HEAD, Progress, progress_from, progress_of};
 pub use source::{ByteSource, Pieces};

@@ -1,4 +1,4 @@
-//! Messages: a head, and the body that it asks for.
+//! Reads messages, which consist of a head and a body.
 ghost use Rattle.std.specs.Prelude.{◌≡◌, ◌++◌, ℕ, List, IfOk, Ok, length};
 ghost use Rattle.http_messages.specs.HeadTests.{parts};
 ghost use Rattle.http_messages.specs.Messages.{IsBody, IsFilled, IsReading, IsReadingAfter};
@@ -12,32 +12,32 @@ use crate::source::ByteSource;
 use std::alloc::{AllocError, Global};
 use store_data::Bytes;
 
-/// A message that came whole, and whose head passes its tests.
+/// A complete message whose head passes its tests.
 #[derive(Drop)]
 pub struct Message {
-    /// Of the head's first line (RFC 9112, section 3.1).
+    /// The method in the request line (RFC 9112 section 3.1).
     pub method: Bytes,
-    /// What follows the method there (RFC 9112, section 3.2).
+    /// The path, which is the request target in the request line (RFC 9112 section 3.2).
     pub target: Bytes,
-    /// As many bytes as the head's length says, none if it says none.
+    /// The body. Its size is the value of `Content-Length`, or 0 if the head has no such field.
     pub body: Bytes,
 }
 
-/// What a connection's bytes are.
+/// The result of reading a message from a connection.
 #[derive(Drop)]
 pub enum Reading {
-    /// A message came.
+    /// A complete message.
     Message(Message),
-    /// The bytes ended before the message did.
+    /// Bytes that ended before the message was complete.
     Broken,
-    /// The head doesn't end in time, or fails a test.
+    /// A head that doesn't end within 8,192 bytes or that fails a test, with the fixed response.
     Refused(FixedReply),
-    /// Memory for the message was refused.
+    /// A head that passes its tests, after which an allocation failed.
     Memory,
 }
 
-/// Reads one message, however its bytes are cut. Bytes behind it are ignored. Until a head passes
-/// its tests no memory is taken.
+/// Reads one message (RFC 9112 section 2.1). Its bytes may arrive in pieces of any size, and bytes
+/// after it are ignored. Allocates nothing before the head has passed its tests.
 pub fn read_message<I: ByteSource>(alloc: Global, incoming: &mut I) -> Reading
     ensures { (bytes : List ℕ) × Agrees (I.brings incoming.old) bytes × IsReading bytes result }
 {
@@ -49,27 +49,32 @@ pub fn read_message<I: ByteSource>(alloc: Global, incoming: &mut I) -> Reading
     }
 }
 
-// Reads what follows a head, the first bytes of which came with it.
+// Tests `head`, and reads the body after it. The bytes `begun` after the head were read with it.
 fn read_rest<I: ByteSource>(alloc: Global, incoming: &mut I, head: &[u8], begun: &[u8]) -> Reading
     ensures { (more : List ℕ) × Agrees (I.brings incoming.old) more
         × IsReadingAfter head.now (begun.now ++ more) result }
 {
     match judge(head) {
         Ok(head) => match read_body(alloc, incoming, head.size, begun) {
-            Ok(body) => with_body(alloc, head, body),
+            Ok(body) => with_body(alloc, head, body, incoming.is_cut()),
             Err(_) => Reading::Memory,
         },
         Err(why) => Reading::Refused(why),
     }
 }
 
-// What is read where this body came, or none.
-fn with_body(alloc: Global, head: HeadParts<'_>, body: Option<Bytes>) -> Reading
+// Returns the message with this head and body. `body` is `None` if too few bytes were read, and
+// `is_cut` is `true` if bytes were lost because an allocation failed.
+fn with_body(alloc: Global, head: HeadParts<'_>, body: Option<Bytes>, is_cut: bool) -> Reading
     ensures { (rest : List ℕ) → IsBody head.entry.size rest body
         → IsReadingBy (parts (Ok head.entry)) rest result }
 {
     let Some(body) = body else {
-        return Reading::Broken;
+        return if is_cut {
+            Reading::Memory
+        } else {
+            Reading::Broken
+        };
     };
     match message_with(alloc, head, body) {
         Ok(message) => Reading::Message(message),
@@ -77,7 +82,7 @@ fn with_body(alloc: Global, head: HeadParts<'_>, body: Option<Bytes>) -> Reading
     }
 }
 
-// A message of this head and body.
+// Returns a message with copies of the method and the path in `head`, and with `body`.
 fn message_with(alloc: Global, head: HeadParts<'_>, body: Bytes) -> Result<Message, AllocError>
     ensures { IfOk result
         (λ m. as_parts m ≡ record {
@@ -95,7 +100,8 @@ fn message_with(alloc: Global, head: HeadParts<'_>, body: Bytes) -> Result<Messa
     })
 }
 
-// Reads a body of this size, the first bytes of which came already; none if too few come.
+// Reads a body of `size` bytes, starting with the bytes `begun`, which were read already. Returns
+// `None` if the bytes end too early.
 fn read_body<I: ByteSource>(
     alloc: Global,
     incoming: &mut I,
@@ -113,7 +119,8 @@ fn read_body<I: ByteSource>(
     }
 }
 
-// Fills a body, the first bytes of which came already; not if too few come.
+// Fills `body`, starting with the bytes `begun`, which were read already. Returns `false` if the
+// bytes end too early.
 fn bring_body<I: ByteSource>(incoming: &mut I, begun: &[u8], body: &mut [u8]) -> bool
     ensures size { length body.new ≡ length body.old }
     ensures filled { (more : List ℕ) × Agrees (I.brings incoming.old) more

@@ -1,11 +1,12 @@
-//! The parts of a reply, by its bytes.
+//! Splits a response into its parts.
 ghost use Rattle.std.specs.Prelude.{◌≡◌};
 ghost use Rattle.http_messages.specs.ReplyParts.{body_behind, status_in};
 
 use crate::reading::find_end;
 
-/// The three digits of a reply's status, and its body (RFC 9112 sections 4 and 2.1). Where no head
-/// ends there is no body.
+/// Returns the three digits of the status code and the body of the response `reply` (RFC 9112
+/// sections 4 and 2.1). If the head doesn't end, the body is empty. If `reply` has fewer than 12
+/// bytes, digits are missing. Allocates nothing.
 pub fn reply_parts(reply: &[u8]) -> (&[u8], &[u8])
     ensures status { result.0.now ≡ status_in reply.now }
     ensures body { result.1.now ≡ body_behind reply.now }

@@ -1,4 +1,4 @@
-//! Reading a head, however its bytes are cut.
+//! Reads a head, whose bytes may arrive in pieces of any size.
 ghost use Rattle.std.specs.Prelude.{◌≡◌, ◌+◌, ◌<◌, ◌≤◌, ℕ, IfSome, List, None, length};
 ghost use Rattle.std.specs.Bool.{OnFalse, OnTrue};
 ghost use Rattle.std.specs.Io.KnownBytes.{Consumes};
@@ -8,18 +8,18 @@ ghost use Rattle.http_messages.specs.HeadEnd.{Reaches};
 
 use crate::source::ByteSource;
 
-/// How far the reading of a head came.
+/// The result of reading a head.
 #[derive(Clone, Copy, Debug, PartialEq, Eq)]
 pub(crate) enum Reach {
-    /// The head ends here, and so many bytes came.
+    /// A head of `end` bytes, among the first `filled` bytes.
     Head { end: usize, filled: usize },
-    /// The bytes ended before the head did.
+    /// Bytes that ended before the head was complete.
     Broken,
-    /// 8,192 bytes came, and the head doesn't end among them.
+    /// 8,192 bytes that don't contain the end of the head.
     HeadTooLarge,
 }
 
-/// Reads until a head's end is there. It takes no memory.
+/// Reads into `buf` until it contains the end of the head. Allocates nothing.
 pub(crate) fn read_head<I: ByteSource>(incoming: &mut I, buf: &mut [u8; 8192]) -> Reach
     ensures { Reaches (I.brings incoming.old) (I.brings incoming.new) buf.new result }
 {
@@ -38,8 +38,8 @@ pub(crate) fn read_head<I: ByteSource>(incoming: &mut I, buf: &mut [u8; 8192]) -
     Reach::HeadTooLarge
 }
 
-/// How far the first CR LF CR LF reaches. None ends in the first bytes, which were looked at
-/// before.
+/// Returns the position after the first CR LF CR LF in `bytes`. The search starts at `from`,
+/// because the first `from` bytes were searched before.
 pub(crate) fn find_end(bytes: &[u8], from: usize) -> Option<usize>
     requires within { from ≤ length bytes.now }
     requires before { least (ends_head bytes.now) from ≡ None }
@@ -54,7 +54,7 @@ pub(crate) fn find_end(bytes: &[u8], from: usize) -> Option<usize>
     None
 }
 
-/// Fills a buffer, unless the bytes end before.
+/// Reads until `buf` is full. Returns `true` if it is, or `false` if the bytes ended too early.
 pub(crate) fn fill<I: ByteSource>(incoming: &mut I, buf: &mut [u8]) -> bool
     ensures full { OnTrue result
         (Consumes (I.brings incoming.old) (I.brings incoming.new) buf.new) }

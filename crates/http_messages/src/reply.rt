@@ -1,4 +1,4 @@
-//! Heads of replies.
+//! Writes the heads of responses.
 ghost use Rattle.std.specs.Prelude.{◌≡◌, ◌+◌, ◌≤◌, ◌++◌, length, take, codes};
 ghost use Rattle.http.specs.StatusCode.{code_digits};
 ghost use Rattle.http_messages.specs.Texts.{allow_text, head_text, phrase, status_text, type_text};
@@ -6,26 +6,28 @@ ghost use Rattle.http_messages.specs.Texts.{allow_text, head_text, phrase, statu
 use http::StatusCode;
 use itoa::Buffer;
 
-/// What a reply carries.
+/// The kind of a response's content, which determines the lines `Content-Type` and `Allow`.
 #[derive(Clone, Copy, Debug, PartialEq, Eq)]
 pub enum Content {
     /// JSON.
     Json,
-    /// A batch's report.
+    /// The report of a batch, as text.
     Report,
-    /// JSON, to a message whose target has another method.
+    /// JSON, with the only method that the path allows. The message had a different method.
     OnlyMethod(Method),
 }
 
-/// The method of a target.
+/// The method that a path allows.
 #[derive(Clone, Copy, Debug, PartialEq, Eq)]
 pub enum Method {
     Get,
     Post,
 }
 
-/// Puts all of a reply before its body at the front, and answers its length. A status that no reply
-/// has is answered 503. It takes no memory.
+/// Writes the head of a response to the start of `out`, and returns its length (RFC 9112 sections 4
+/// and 5). The response has the status code `status`, content of the kind `kind`, and a body of
+/// `size` bytes. If no response of the server has this status code, 503 is written. Allocates
+/// nothing.
 pub fn reply_head(status: u16, kind: Content, size: usize, out: &mut [u8; 256]) -> usize
     ensures head { take result out.new ≡ head_text status kind size }
     ensures room { result ≤ 256 }
@@ -42,7 +44,7 @@ pub fn reply_head(status: u16, kind: Content, size: usize, out: &mut [u8; 256]) 
     put(out, at, b"\r\n")
 }
 
-// Puts a text after what stands at the front, and answers where it ends.
+// Writes `text` to `out` at position `at`, and returns the position after it.
 fn put(out: &mut [u8; 256], at: usize, text: &[u8]) -> usize
     requires { at + length text.now ≤ 256 }
     ensures text { take result out.new ≡ take at out.old ++ text.now }
@@ -53,7 +55,8 @@ fn put(out: &mut [u8; 256], at: usize, text: &[u8]) -> usize
     end
 }
 
-// Puts a status and its words after what stands at the front, and answers where they end.
+// Writes the status code and its reason phrase to `out` at position `at`, and returns the position
+// after them.
 fn put_status(out: &mut [u8; 256], at: usize, status: StatusCode) -> usize
     requires room { at + 35 ≤ 256 }
     requires few { length (phrase status) ≤ 31 }
@@ -66,7 +69,7 @@ fn put_status(out: &mut [u8; 256], at: usize, status: StatusCode) -> usize
     put(out, at, words(status).as_bytes())
 }
 
-// The words of a status.
+// Returns the reason phrase of `status`.
 #[tactic(auto, unfolding(crate::specs::Texts::phrase))]
 fn words(status: StatusCode) -> &'static str
     ensures { result.now ≡ phrase status }
@@ -74,7 +77,7 @@ fn words(status: StatusCode) -> &'static str
     status.canonical_reason().unwrap_or("")
 }
 
-// The status that a reply is sent with.
+// Returns the status code to send: `status`, or 503 if no response of the server has it.
 #[tactic(auto, unfolding(crate::specs::Texts::phrase))]
 fn known(status: u16) -> StatusCode
     ensures text { code_digits result ++ codes " " ++ phrase result ≡ status_text status }

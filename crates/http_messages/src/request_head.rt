@@ -1,4 +1,4 @@
-//! The heads of requests, as clients send them.
+//! Writes the heads of the requests that clients send.
 ghost use Rattle.std.specs.Prelude.{◌≡◌, ◌≤◌, ◌++◌, OnOk, length};
 ghost use Rattle.text_io.specs.Inputs.{most_input};
 ghost use Rattle.http_messages.specs.RequestHeads.{IsHeardBefore, IsTarget, request_head};
@@ -6,8 +6,12 @@ ghost use Rattle.http_messages.specs.RequestHeads.{IsHeardBefore, IsTarget, requ
 use itoa::Buffer;
 use std::alloc::AllocError;
 
-/// Adds the head of a POST to this target, with a body of so many bytes (RFC 9112 section 3). It
-/// fails only where memory is refused.
+/// Appends the head of a POST request to `text`. The request has the path `target` and a body of
+/// `size` bytes (RFC 9112 section 3).
+///
+/// # Errors
+///
+/// Returns `AllocError` if an allocation fails. `text` may then end with a part of the head.
 #[tactic(auto, using(crate::proofs::SentHeads::sent_is_heard))]
 pub fn push_request_head(text: &mut Vec<u8>, target: &[u8], size: usize) -> Result<(), AllocError>
     ensures text { OnOk result (text.new.items ≡ text.old.items ++ request_head target.now size) }

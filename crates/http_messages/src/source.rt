@@ -1,25 +1,31 @@
-//! Who brings a connection's bytes.
+//! The bytes of a connection.
 ghost use Rattle.std.specs.Prelude.{◌≡◌};
 ghost use Rattle.http_messages.specs.PieceBytes.{bytes_of};
 
-/// Brings the bytes of a connection, in pieces of any size. A read that fails is the end.
+/// A source of the bytes of a connection. They arrive in pieces of any size, and a failed read ends
+/// them.
 pub trait ByteSource {
     ghost use Rattle.std.specs.Prelude.{◌≡◌, ◌<◌, ◌≤◌, ℕ, List, Option, length, take};
     ghost use Rattle.std.specs.Io.KnownBytes.{Consumes, IsAtEnd};
 
-    /// All that still comes, up to the end or the first failure, where it is known.
+    /// The remaining bytes, up to the end or the first failed read, if they are known.
     ghost brings: { Self → Option (List ℕ) };
 
-    /// Puts bytes at the front, and answers how many; 0 at the end.
+    /// Copies the next bytes to the start of `buf`, and returns their number. It is 0 only at the
+    /// end.
     fn bring(&mut self, buf: &mut [u8]) -> usize
         requires { 0 < length buf.old }
         ensures count { result ≤ length buf.new }
         ensures bytes { Consumes (brings self.old) (brings self.new) (take result buf.new) }
         ensures end { result ≡ 0 → IsAtEnd (brings self.old) };
+
+    /// Returns `true` if more bytes arrived but were lost because an allocation failed.
+    fn is_cut(&self) -> bool {
+        false
+    }
 }
 
-/// A connection in memory: these bytes, which come in pieces of at most so many, and of one at
-/// least.
+/// A connection in memory, whose bytes arrive in pieces of a limited size.
 #[derive(Clone, Copy)]
 pub struct Pieces<'a> {
     bytes: &'a [u8],
@@ -27,7 +33,8 @@ pub struct Pieces<'a> {
 }
 
 impl<'a> Pieces<'a> {
-    /// These bytes, in pieces of at most so many.
+    /// Creates a connection that brings `bytes` in pieces of at most `most` bytes, or of one byte
+    /// if `most` is 0.
     pub fn new(bytes: &'a [u8], most: usize) -> Pieces<'a>
         ensures { bytes_of result ≡ bytes.now }
     {

@@ -1,4 +1,4 @@
--- What the router finds of a target of a client is what the target names.
+-- Proves that the router finds the route of a path that begins with `/c/`.
 use Rattle.std.proofs.Common.{◌≡◌, ℕ, Bool, true, false, cond, List, [], ◌∷◌, ◌++◌, length, Some, None, refl, sym, ap, subst, ◌∙◌, codes, append_assoc}
 use Rattle.std.specs.Prelude.{◌&&◌, nat_lt, bytes_eq}
 use Rattle.store_data.proofs.GroupLemmas.{same-bytes_eq}
@@ -12,7 +12,7 @@ use Rattle.http_requests.proofs.NameLemmas.{walk_last, walk_more}
 use Rattle.http_requests.proofs.RowLemmas.{by_cut, follow, follow_none, follow_row, name_empty, name_last, name_more, name_nothing, past, seek_none, wild, word_alone, word_more}
 use Rattle.http_requests.proofs.RouteLemmas.{Agrees, agree, all_text, among_none, text_cut, text_join, found, no_token, parts_last, parts_more, parts_some, route_is, some, utf8}
 
--- a part of a target that names something
+-- `x` is a segment of a path: it is UTF-8, has no slash, and isn't empty
 record IsPart (x : List ℕ) : Type 0 where
   bare : has_slash x ≡ false
   some : nat_lt 0 (length x) ≡ true
@@ -36,7 +36,7 @@ batch_rows = wild (past ((256 ∷ [], import_form) ∷ []) None)
 abbrev product_rows : RowsOf (RouteOf Form)
 product_rows = wild (past [] (Some import_form))
 
--- ---- the texts
+-- ---- texts
 
 abbrev of_client : List ℕ → List ℕ → List ℕ
 of_client client t = codes "/c/" ++ (client ++ 47 ∷ t)
@@ -125,7 +125,7 @@ batch_agrees client number t c n = by_cut (λ s. all_text s ≡ true → Agrees 
         agree (of_import client number (x ∷ xs ++ 47 ∷ u)) (seek 0 batch_rows (x ∷ xs ++ 47 ∷ u)) (seek 0 product_rows u) (name_more ((256 ∷ [], import_form) ∷ []) None x xs u h (no_token x (xs ++ 47 ∷ u) a))
         (product_agrees client number (x ∷ xs) u c n (part_is x xs u h a) (text_cut (x ∷ xs) u a).1)
 
--- ---- behind a number
+-- ---- after the request number
 
 no_import : (client number x : List ℕ) (ps : List (List ℕ)) → bytes_eq x (codes "batch") ≡ false → route_by (codes "c" ∷ client ∷ number ∷ x ∷ ps) ≡ None
 no_import client number x [] n = refl
@@ -156,7 +156,7 @@ word_agrees client number t c n = by_cut (λ s. all_text s ≡ true → Agrees (
             let named = number_named client number (x ++ 47 ∷ u) c n a ∙ ap (λ (ps : List (List ℕ)). route_among (codes "c" ∷ client ∷ number ∷ ps)) (parts_more x u h) in
             agree (of_client client (number ++ 47 ∷ (x ++ 47 ∷ u))) (seek 0 [] u) None (seek_none 0 u) (among_none (codes "c" ∷ client ∷ number ∷ x ∷ parts u) (no_import client number x (parts u) e) ∙ sym named)
 
--- ---- the number
+-- ---- the request number
 
 job_takes : (client number : List ℕ) → IsPart client → IsPart number → Agrees (Some job_form) (of_client client number)
 job_takes client number c n =

@@ -1,4 +1,4 @@
--- What the router finds of a target is what the target names.
+-- Proves that the router finds the route of a path.
 use Rattle.std.proofs.Common.{◌≡◌, ℕ, ◌==◌, Bool, true, false, cond, List, [], ◌∷◌, ◌++◌, Some, None, refl, sym, ap, subst, ◌∙◌, arith, codes}
 use Rattle.std.specs.Prelude.{◌&&◌, bytes_eq}
 use Rattle.std.specs.Str.{IsUtf8, is_utf8}
@@ -75,7 +75,7 @@ batch_last (b ∷ x) h a =
     (found batch_form path ((codes "batch", b ∷ x) ∷ []) (walk_last batch_form.pattern batch_form.text path (8, 13) 0 [] (codes "/batch/") [] (b ∷ x) refl refl refl refl)
     (utf8 (codes "batch") refl, utf8 (b ∷ x) a, tt) (sym named))
 
--- what is no report behind a batch
+-- a path with another word than `report` after the batch has no route
 no_report : (x u : List ℕ) → bytes_eq u (codes "report") ≡ false → route_by (codes "batch" ∷ x ∷ parts u) ≡ None
 no_report x u n = by_cut (λ s. bytes_eq s (codes "report") ≡ false → route_by (codes "batch" ∷ x ∷ parts s) ≡ None) one more u n
   where
@@ -122,7 +122,7 @@ other_word x p (q ∷ r ∷ s ∷ []) batch blanks client = refl
 other_word x p (q ∷ r ∷ s ∷ t ∷ []) batch blanks client = (λ i. cond (client i && bytes_eq r (codes "batch")) (Some (Import p q s t)) None)
 other_word x p (q ∷ r ∷ s ∷ t ∷ u ∷ ps) batch blanks client = refl
 
--- the rows behind the first slash
+-- the rows after the first slash
 abbrev rows_behind : RowsOf (RouteOf Form)
 rows_behind =
     (codes "batch/" ++ 256 ∷ codes "/report", report_form) ∷ (codes "batch/" ++ 256 ∷ [], batch_form) ∷ (codes "blanks/" ++ 256 ∷ [], blanks_form)

@@ -1,4 +1,4 @@
--- Bytes that are heard as one thing mean one thing.
+-- Proves that bytes have at most one meaning.
 use Rattle.std.proofs.Common.{◌≡◌, ℕ, Bool, true, false, List, length, take, drop, Option, Some, None, Result, Ok, Err, refl, ap, ◌∙◌, subst}
 use Rattle.std.specs.Prelude.{nat_lt, if◌then◌else◌, ⊤}
 use Rattle.http_messages.specs.declared.fixed.FixedReply.{FixedReply}
@@ -13,7 +13,7 @@ use Rattle.http_requests.specs.Meant.{IsMeant, IsMeantBy, Means, meant_by, meant
 pub meant_as : (bytes : List ℕ) (h : Heard) → IsHeardAs bytes h → Means bytes (meant_of h)
 meant_as bytes h known = record { is = (h, known.is, refl); alone = λ other is. is.2 ∙ ap meant_of (known.alone is.0 is.1) }
 
--- ---- a message comes behind a head that passes its tests
+-- ---- a message has a valid head
 
 abbrev IsBrings : Heard → Type 0
 IsBrings Broken = ⊥
@@ -35,7 +35,7 @@ head_at x (Some end) c is (judged, judges, e) = judged_head x end c judged is ju
 head_of : (x : List ℕ) (c : MessageParts) → IsHeard x (Brings c) → HasHead x
 head_of x c heard = head_at x (end_of_head x) c refl heard
 
--- ---- what is read
+-- ---- the bytes that are read
 
 pub message_means : (bytes : List ℕ) (c : MessageParts) (m : Meaning) → IsHeardAs bytes (Brings c) → IsMeantBy (meant_by (asked_of c)) m → IsMeant bytes m
 message_means bytes c (meaning.Asks a) known (is, ranged) = (subst (Means bytes) is (meant_as bytes (Brings c) known), head_of bytes c known.is, ranged)

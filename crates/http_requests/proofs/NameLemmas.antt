@@ -1,4 +1,4 @@
--- What the parameters of a route took from a path.
+-- Proves the values of a route's parameters.
 use Rattle.std.proofs.Common.{◌≡◌, ℕ, suc, ◌+◌, ◌-◌, ◌≤◌, ◌==◌, ltb, Bool, true, false, cond, List, [], ◌∷◌, ◌++◌, length, drop, get_or, sym, ap, ◌∙◌, arith, length-append, append_assoc}
 use Rattle.std.specs.Prelude.{◌&&◌, leb}
 use Rattle.std.specs.List.{list_all}
@@ -9,7 +9,7 @@ use Rattle.matchit.specs.Seek.{has_slash, segment}
 use Rattle.matchit.specs.Params.{after_token, part_of, walk, wild_from, wild_stop}
 use Rattle.http_requests.proofs.RowLemmas.{segment_more}
 
--- no parameter among the tokens
+-- none of the tokens is a parameter
 abbrev pub are_bytes : List ℕ → Bool
 are_bytes w = list_all (λ x. ltb x 256) w
 
@@ -41,11 +41,11 @@ part_end x y =
     let size : length (x ++ y) - length x ≡ length y = omega (arith, long) in
     rw (one, two, size, drop-append_seam x y) (take-length y)
 
--- whether the token is a parameter with more behind it
+-- the token is a parameter, and tokens follow it
 abbrev pub goes_on : List ℕ → ℕ → Bool
 goes_on pattern token = ltb token (length pattern) && (get_or pattern token 0 == 256) && ltb (token + 1) (length pattern)
 
--- a walk from where a parameter's part begins
+-- `walk` from the start of the segment with the parameter `name`
 walk_from : (pattern text path : List ℕ) (name : ℕ × ℕ) (names : List (ℕ × ℕ)) (token at next start stop : ℕ) → wild_from (drop token pattern) (length path) token at ≡ (next, start)
     → wild_stop pattern next path start ≡ stop
     → walk pattern text path (name ∷ names) token at ≡ (part_of text name.0 name.1, part_of path start stop) ∷ walk pattern text path names (after_token next) stop

@@ -1,4 +1,4 @@
--- What a message that is posted means.
+-- Proves the meaning of a message that a client sends.
 use Rattle.std.proofs.Common.{◌≡◌, ◌<◌, ◌≤◌, ◌^◌, ◌==◌, ℕ, Bool, true, false, cond, List, [], ◌∷◌, ◌++◌, length, Some, None, refl, sym, ap, subst, ◌∙◌, codes, decimal, arith, append_assoc, append-nil, length-append}
 use Rattle.std.specs.Prelude.{◌&&◌, not, nat_lt, nat_le, slice_index, IfOk, IsTrue, OnOk, Result, Ok, Err}
 use Rattle.std.specs.List.{list_all}
@@ -25,12 +25,12 @@ use Rattle.http_requests.specs.Routes.{Job, Import, has_no_empty, led, parts, ro
 use Rattle.http_requests.proofs.MeantLemmas.{meant_as}
 use Rattle.http_requests.proofs.RouteLemmas.{all_text, parts_last, parts_more, text_join, route_is}
 
--- a fact of what was made, by another and by a fact of its own
+-- a property of a result follows from a property of it and a fact that holds for every `Ok`
 pub on_made : {T E : Type 0} (r : Result T E) (P Q : T → Type 0) (N : Type 0) → IfOk r P → OnOk r N → ((t : T) → P t → N → Q t) → IfOk r Q
 on_made (Ok t) P Q N p n make = make t p n
 on_made (Err e) P Q N p n make = tt
 
--- ---- the target's parts
+-- ---- the segments of the path
 
 abbrev IsPlain : List ℕ → Type 0
 IsPlain xs = list_all is_name_char xs ≡ true
@@ -118,7 +118,7 @@ number_is_read n some few =
     let numeral = decimal_is_IsNumeral n (omega (arith, few)) in
     ap (λ (t : Bool). cond t (Some (digits_value 10 (decimal n))) None) (decimal_is_number n some few) ∙ ap (λ (v : ℕ). Some v) numeral.1
 
--- ---- the head of its message
+-- ---- the head of the message
 
 char_is_visible : (b : ℕ) → is_name_char b ≡ true → is_visible b ≡ true
 char_is_visible b h = grind (arith, nat_tests)
@@ -162,7 +162,7 @@ tail_is_visible b p batch product = simp (list_all-append, name_is_visible b bat
 pub tail_is_short : (b p : List ℕ) → IsTrue (is_name b) → IsTrue (is_name p) → length (import_tail b p) ≤ 72
 tail_is_short b p batch product = simp length-append (omega (arith, name_is_short b batch, name_is_short p product))
 
--- ---- what it means
+-- ---- the meaning of the message
 
 pub job_means : (client : List ℕ) (number : ℕ) (body text : List ℕ) → IsTrue (is_name client) → 1 ≤ number → number < 10 ^ 18
     → IsHeardAs text (Brings (posted (target_with client number []) body)) → Means text (posted_with client number [] body (call_in body))

@@ -1,4 +1,4 @@
--- Values that bodies are, and how many members they have.
+-- Lemmas about the value of a body, and about its number of members.
 use Rattle.std.proofs.Common.{◌≡◌, ℕ, suc, cond, List, [], ◌∷◌, length, String, Some, None, refl, ap, ◌∙◌, inl, inr}
 use Rattle.std.specs.Prelude.{IsUtf8}
 use Rattle.std.specs.declared.alloc.Global.{Global}

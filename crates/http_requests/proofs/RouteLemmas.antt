@@ -1,4 +1,4 @@
--- The parts of a target, and what a router's answer has to be.
+-- Lemmas about the segments of a path, and about the expected result of the router.
 use Rattle.std.proofs.Common.{◌≡◌, ℕ, ◌==◌, Bool, true, false, cond, List, [], ◌∷◌, ◌++◌, length, get_or, Option, Some, None, refl, sym, ap, subst, ◌∙◌, arith, inl, inr, ltb}
 use Rattle.std.specs.Prelude.{◌&&◌, ◌<◌, ◌+◌, ◌/◌, ◌≤◌, ◌⊎◌, slice_index, if◌then◌else◌, nat_lt}
 use Rattle.std.specs.Str.{IsCharBoundary, IsUtf8, is_utf8}
@@ -20,7 +20,7 @@ use Rattle.http_requests.proofs.RowLemmas.{no_slash}
 
 -- ---- UTF-8
 
--- a text by its bytes, from the front as far as they are ASCII
+-- the text is UTF-8, tested byte by byte as long as the bytes are ASCII
 abbrev pub all_text : List ℕ → Bool
 all_text [] = true
 all_text (b ∷ bs) = if is_ascii b then all_text bs else is_utf8 (b ∷ bs)
@@ -62,7 +62,7 @@ text_cut x u h =
 pub text_join : (x u : List ℕ) → all_text x ≡ true → all_text u ≡ true → all_text (x ++ 47 ∷ u) ≡ true
 text_join x u h g = text_is (x ++ 47 ∷ u) (IsUtf8-append x (47 ∷ u) (utf8 x h) (IsUtf8-append (47 ∷ []) u slash (utf8 u g)))
 
--- the first byte of a character is a byte
+-- the first element of a character's encoding is a byte
 first_byte : (c : ℕ) (r : List ℕ) → c < 1114112 → get_or (encode c ++ r) 0 0 < 256
 unfolding encode
 first_byte c r h = by (ltb c 128) refl (ltb c 2048) refl (ltb c 65536) refl _ _ _
@@ -88,7 +88,7 @@ byte_of b x u = by u.0 u.1.0 u.1.1
 pub no_token : (b : ℕ) (x : List ℕ) → all_text (b ∷ x) ≡ true → (256 == b) ≡ false
 no_token b x h = let f = byte_of b x (utf8 (b ∷ x) h) in grind (arith, nat_tests, f)
 
--- ---- parts
+-- ---- segments
 
 pub parts_last : (x : List ℕ) → has_slash x ≡ false → parts x ≡ x ∷ []
 parts_last [] h = refl
@@ -110,7 +110,7 @@ parts_some (b ∷ text) =
 pub some : (b : ℕ) (x : List ℕ) → nat_lt 0 (length (b ∷ x)) ≡ true
 some b x = grind (arith, nat_tests)
 
--- where the parts name nothing
+-- a path whose segments have no route
 pub among_none : (ps : List (List ℕ)) → route_by ps ≡ None → None ≡ route_among ps
 among_none ps h = rw h (elim (has_no_empty ps) as (λ t. None ≡ cond {A = Option Route} t None None) [ true ↦ refl | false ↦ refl ])
 
@@ -130,7 +130,7 @@ no_route (b ∷ rest) h = by (b == 47) refl (is_utf8 rest) refl
         let is : b ≡ 47 = grind (arith, nat_tests, e) in
         absurd (h (subst (λ c. IsUtf8 (c ∷ rest)) (sym is) (IsUtf8-append (47 ∷ []) rest slash (IsUtf8-from_is_utf8 rest f))))
 
--- ---- what is found
+-- ---- the result of the router
 
 abbrev pub Agrees : Option (RouteOf Form) → List ℕ → Type 0
 Agrees None path = None ≡ route_in path

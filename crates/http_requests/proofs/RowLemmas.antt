@@ -1,4 +1,4 @@
--- What a router finds: along a word of its patterns, and past a name.
+-- Proves the result of the router after a word of its patterns, and after a name.
 use Rattle.std.proofs.Common.{◌≡◌, ℕ, zero, suc, ◌-◌, ◌≤◌, ◌==◌, ltb, Bool, true, false, cond, List, [], ◌∷◌, ◌++◌, length, drop, Option, Some, None, refl, sym, ap, subst, ◌∙◌, arith, nat_eq, length-append, add-one}
 use Rattle.std.specs.Prelude.{◌&&◌, bytes_eq}
 use Rattle.std.specs.List.{list_all}
@@ -9,7 +9,7 @@ use Rattle.std.proofs.lemmas.Bool.Decides.{nat_tests}
 use Rattle.matchit.specs.Rows.{RowsOf}
 use Rattle.matchit.specs.Seek.{cuts, has_slash, longest_from, longest_suffix, or_else, own, param_step, seek, segment, step, with_suffix}
 
--- ---- texts with no slash
+-- ---- texts without a slash
 
 pub no_slash : (b : ℕ) (x : List ℕ) → has_slash (b ∷ x) ≡ false → ((b == 47) ≡ false) × (has_slash x ≡ false)
 no_slash b x h = by (b == 47) refl h
@@ -30,7 +30,7 @@ slash_more : (x u : List ℕ) → has_slash (x ++ 47 ∷ u) ≡ true
 slash_more [] u = refl
 slash_more (b ∷ x) u = rw (slash_more x u) (elim (b == 47) as (λ v. cond v true true ≡ true) [ true ↦ refl | false ↦ refl ])
 
--- a text is one part, or one and what follows a slash
+-- a text is one segment, or a segment followed by a slash and more
 pub by_cut : (P : List ℕ → Type 0) → ((x : List ℕ) → has_slash x ≡ false → P x) → ((x u : List ℕ) → has_slash x ≡ false → P (x ++ 47 ∷ u)) → (t : List ℕ) → P t
 by_cut P one more [] = one [] refl
 by_cut P one more (b ∷ t) =
@@ -40,7 +40,7 @@ by_cut P one more (b ∷ t) =
     by true e rest = let is : b ≡ 47 = grind (arith, nat_tests) in subst (λ c. P (c ∷ t)) (sym is) (more [] t refl)
     by false e rest = rest e
 
--- whether a name's segment ends with a slash
+-- the segment of a name doesn't end with a slash
 ends_bare : (b : ℕ) (x : List ℕ) → has_slash (b ∷ x) ≡ false → pointwise nat_eq (47 ∷ []) (drop (length x) (b ∷ x)) ≡ false
 ends_bare b [] h = let f = no_slash b [] h in let n : nat_eq 47 b ≡ false = let g = f.0 in grind (arith, nat_tests, g) in rw n refl
 ends_bare b (c ∷ x) h = ends_bare c x (no_slash b (c ∷ x) h).1
@@ -57,7 +57,7 @@ cuts_more b x =
     let some : ltb 1 (suc (suc (length x))) ≡ true = grind (arith, nat_tests) in
     rw (long, some, one, drop-append_seam (b ∷ x) (47 ∷ [])) refl
 
--- bytes as far as a slash
+-- the elements before the first slash are bytes, and there is a slash
 abbrev pub worded : List ℕ → Bool
 worded [] = false
 worded (x ∷ t) = ltb x 256 && cond (x == 47) true (worded t)
@@ -83,7 +83,7 @@ module _ {K : Type 0} where
   unfolding seek
   seek_byte rs b p one two = simp (one, two, step_none (b ∷ p), seek_none ((param_step {K = K} [] (b ∷ p)).0 - 1) p, or_else_none)
 
-  -- skipped bytes
+  -- bytes that are skipped
   seek_past : (rs : RowsOf K) (x u : List ℕ) → seek (length x) rs (x ++ u) ≡ seek 0 rs u
   unfolding seek
   seek_past rs [] u = refl
@@ -128,7 +128,7 @@ module _ {K : Type 0} where
   worded_own (([], k) ∷ rs) h = cc
   worded_own ((x ∷ t, k) ∷ rs) h = worded_own rs (and_parts (worded (x ∷ t)) (all_worded rs) h).1
 
-  -- the rows behind a word and a slash
+  -- the rows after a word and a slash
   abbrev pub follow : List ℕ → RowsOf K → RowsOf K
   follow [] rs = step 47 rs
   follow (b ∷ w) rs = follow w (step b rs)
@@ -166,7 +166,7 @@ module _ {K : Type 0} where
       by true e ih = let same : nat_eq b x ≡ true = grind (arith, nat_tests) in rw same ih
       by false e ih = let other : nat_eq b x ≡ false = grind (arith, nat_tests) in rw other refl
 
-  -- a last word
+  -- the last word
   pub word_last : (w : List ℕ) (k : K) (u : List ℕ) → list_all (λ x. ltb x 256) w ≡ true → seek 0 ((w, k) ∷ []) u ≡ cond (bytes_eq u w) (Some k) None
   unfolding seek
   word_last [] k [] h = refl
@@ -191,7 +191,7 @@ module _ {K : Type 0} where
   wild [] = []
   wild ((t, k) ∷ rs) = (256 ∷ t, k) ∷ wild rs
 
-  -- what follows a name: a slash and more, or the end
+  -- the rows after a name: a slash and more, or the end
   abbrev pub past : RowsOf K → Option K → RowsOf K
   past [] None = []
   past [] (Some k) = ([], k) ∷ []

@@ -1,4 +1,4 @@
--- What messages ask (this project's profile).
+-- Defines the request of a message (this project's profile).
 use Rattle.std.specs.Prelude.{◌≡◌, ℕ, if◌then◌else◌, List, [], ◌∷◌, ◌++◌, bytes_eq, codes, Option, Some, None, Result, Ok, Err, ⊤, option_map}
 use Rattle.text_io.specs.Numbers.{number_in}
 use Rattle.store_data.specs.Name.{is_name}
@@ -20,17 +20,17 @@ use Rattle.http_requests.specs.Members.{passing}
 use Rattle.http_requests.specs.Requests.{call_in}
 use Rattle.http_requests.specs.Routes.{Route, Job, Import, Batch, Report, Blanks, method_of, route_in}
 
--- ---- what a repeat has to have alike
+-- ---- request bytes
 
--- what follows the number in an import's target
+-- the part of an import's path after the request number
 abbrev pub import_tail : List ℕ → List ℕ → List ℕ
 import_tail batch product = codes "/batch/" ++ batch ++ codes "/" ++ product
 
--- what follows the number in the target, a byte 00, and the body
+-- the request bytes: the part of the path after the request number, a byte 00, and the body
 abbrev pub ask_with : List ℕ → List ℕ → List ℕ
 ask_with tail body = tail ++ 0 ∷ body
 
--- ---- by the route
+-- ---- requests by route
 
 abbrev pub method_text : Method → List ℕ
 method_text Get = codes "GET"
@@ -39,17 +39,18 @@ method_text Post = codes "POST"
 abbrev pub name_in : List ℕ → Option (List ℕ)
 name_in text = passing is_name text
 
--- a call under a client's number, if these are such
+-- the arrival of a call with its client and request number, if all of them are valid
 abbrev pub arrival_of : Option (List ℕ) → Option ℕ → List ℕ → Option Call → Option Asked
 arrival_of (Some client) (Some number) ask (Some request) = Some (asked.Arrival (record { client = client; number = number; ask = ask; request = request }))
 arrival_of client number ask request = None
 
--- an import has no JSON: its target and its body say it
+-- the import of a batch file, which has no JSON: the names are in the path, and the body is the
+-- file
 abbrev pub import_of : Option (List ℕ) → Option (List ℕ) → List ℕ → Option Call
 import_of (Some batch) (Some product) raw = Some (call.Job (request.Import batch product raw))
 import_of batch product raw = None
 
--- what a target and a body ask for, if the names and the number are such, and the JSON is a call
+-- the request with this route and body, if the names, the number and the JSON are valid
 abbrev pub ask_in : Route → List ℕ → Option Asked
 ask_in (Job client number) body = arrival_of (name_in client) (number_in number) (ask_with [] body) (call_in body)
 ask_in (Import client number batch product) body =
@@ -66,23 +67,23 @@ abbrev pub asked_at : Option Route → MessageParts → Result Asked FixedReply
 asked_at None c = Err NoRoute
 asked_at (Some r) c = if bytes_eq c.method (method_text (method_of r)) then or_malformed (ask_in r c.body) else Err (OnlyMethod (method_of r))
 
--- what a message asks for, or the first test that it fails
+-- the request of a message, or the fixed response for the first test that fails
 abbrev pub asked_of : MessageParts → Result Asked FixedReply
 asked_of c = asked_at (route_in c.target) c
 
--- ---- what the code calls it
+-- ---- results of the code
 
 abbrev pub IsAsked : Result Asked FixedReply → Result Asked AskFault → Type 0
 IsAsked wanted (Ok a) = wanted ≡ Ok a
 IsAsked wanted (Err (fault.Refused why)) = wanted ≡ Err why
 IsAsked wanted (Err fault.Memory) = ⊤
 
--- what a person reads of why a message asks for nothing
+-- the text of an error
 abbrev pub fault_text : AskFault → List ℕ
 fault_text (fault.Refused why) = codes "the message is refused"
 fault_text fault.Memory = codes "memory was refused"
 
--- its number and call are in their ranges
+-- the number and the call of an arrival are in range
 abbrev pub IsInRange : Asked → Type 0
 IsInRange (asked.Arrival a) = IsArrival a
 IsInRange (asked.Account w) = ⊤

@@ -1,5 +1,5 @@
--- Requests in JSON (RFC 8259). Which members a request has, and their ranges, are this project's
--- profile.
+-- Defines requests in JSON (RFC 8259). The members of each request and their ranges are this
+-- project's profile.
 use Rattle.std.specs.Prelude.{ℕ, ◌-◌, ◌+◌, ◌^◌, ◌==◌, ◌&&◌, nat_le, suc, if◌then◌else◌, Bool, List, bytes_eq, codes, Option, Some, None, option_map, option_and_then}
 use Rattle.std.specs.Str.Parse.{digits_value}
 use Rattle.text_io.specs.Numbers.{is_word}
@@ -12,7 +12,7 @@ use Rattle.job_facts.specs.declared.request.Request.{Request}
 use Rattle.job_facts.specs.declared.request.Request.TheVariants as request
 use Rattle.http_requests.specs.Members.{passing, name_at, number_at, text_at, value_in}
 
--- ---- what is made of values, where each of them is there
+-- ---- results from several values, if all of these exist
 
 abbrev pub with_two : {A B T : Type 0} → (A → B → T) → Option A → Option B → Option T
 with_two made a b = option_and_then (λ x. option_map (made x) b) a
@@ -25,7 +25,7 @@ with_four made a b c d = option_and_then (λ x. with_three (made x) b c d) a
 
 -- ---- members
 
--- how many members an object has, each name counted once
+-- the number of members of an object; a name that is given twice counts once
 abbrev pub count_of : Members → ℕ
 count_of no_members = 0
 count_of (member key d more) = suc (count_of more)
@@ -39,11 +39,11 @@ flag_at key d = option_and_then as_bool (get key d)
 abbrev pub is_within : ℕ → ℕ → ℕ → Bool
 is_within least most n = nat_le least n && nat_le n most
 
--- a number from the least to the most
+-- the number in the member `key`, if it is in the range `least` to `most`
 unfoldable pub number_within : ℕ → ℕ → List ℕ → Data → Option ℕ
 number_within least most key d = option_and_then (passing (is_within least most)) (number_at key d)
 
--- serials and sessions have at most 18 digits
+-- a serial or a session number has at most 18 digits
 abbrev pub serial_at : List ℕ → Data → Option ℕ
 serial_at key d = number_within 0 (10 ^ 18 - 1) key d
 
@@ -53,14 +53,14 @@ session_in d = number_within 1 (10 ^ 18 - 1) (codes "session") d
 unfoldable pub word_in : Data → Option ℕ
 word_in d = option_map (digits_value 16) (option_and_then (passing is_word) (text_at (codes "sw") d))
 
--- ---- requests, each by its members
+-- ---- requests and their members
 
 unfoldable pub product_in : Data → Option Request
 product_in d =
     with_four (λ code max low check. request.Product (record { code = code; max = max; low = low; check = check }))
     (name_at (codes "product") d) (number_within 16 255 (codes "max") d) (number_within 0 31 (codes "low") d) (flag_at (codes "check") d)
 
--- its last serial has at most 18 digits too
+-- the last serial of the lot also has at most 18 digits
 abbrev pub is_lot : Lot → Bool
 is_lot l = nat_le (l.first + l.count) (10 ^ 18)
 
@@ -93,8 +93,8 @@ withdraw_in d = with_two (λ batch rec. request.Withdraw batch rec) (name_at (co
 unfoldable pub close_in : Data → Option Request
 close_in d = option_map (λ batch. request.Close batch) (name_at (codes "batch") d)
 
--- by the word of `do`, and by the count of the members, `do` among them, which leaves no room for a
--- further one
+-- the request with the word of `do` and `count` members, `do` included; an additional member makes
+-- a request invalid
 unfoldable pub request_by_word : List ℕ → ℕ → Data → Option Request
 request_by_word word count d =
     if bytes_eq word (codes "product") && (count == 5) then product_in d
@@ -111,7 +111,7 @@ request_by_word word count d =
 
 -- ---- calls
 
--- the numbers that a client gives up
+-- the release of the client's numbers up to `upto`
 unfoldable pub release_in : Data → Option Call
 release_in d = option_map Release (number_within 1 (10 ^ 18 - 1) (codes "upto") d)
 
@@ -123,6 +123,6 @@ call_by_word word count d =
 unfoldable pub call_of_value : Data → Option Call
 call_of_value d = option_and_then (λ word. option_and_then (λ count. call_by_word word count d) (count_in d)) (text_at (codes "do") d)
 
--- the call of a body
+-- the call in a body
 unfoldable pub call_in : List ℕ → Option Call
 call_in body = option_and_then call_of_value (value_in body)

@@ -1,4 +1,4 @@
--- The router's forms of targets: what it keeps of each, and what the code makes of its answer.
+-- Defines the router's rows for the forms of paths, and the route for a match.
 use Rattle.std.specs.Prelude.{ℕ, List, [], ◌∷◌, ◌++◌, codes, Option, option_and_then, option_map}
 use Rattle.http_requests.specs.declared.route.Form.{Form}
 use Rattle.http_requests.specs.declared.route.Form.TheVariants as form
@@ -10,7 +10,7 @@ use Rattle.matchit.specs.Router.{RouteOf}
 use Rattle.matchit.specs.Rows.{RowsOf}
 use Rattle.http_requests.specs.Routes.{Route, Job, Import, Batch, Report, Blanks}
 
--- a target as the code holds it
+-- the route that a `Route` of the code represents
 abbrev pub shown : Target → Route
 shown (target.Job client number) = Job client.now number.now
 shown (target.Import client number batch product) = Import client.now number.now batch.now product.now
@@ -18,11 +18,11 @@ shown (target.Batch batch) = Batch batch.now
 shown (target.Report batch) = Report batch.now
 shown (target.Blanks product) = Blanks product.now
 
--- what the parameters of a match took
+-- the names and values of the parameters of a match
 abbrev pub taken : Params → List (List ℕ × List ℕ)
 taken params = walk params.pattern.now params.text.now params.path.now params.names.now 0 0
 
--- a target of a form, by what its parameters took
+-- the route of this form, with these names and values of parameters
 abbrev pub built : Form → List (List ℕ × List ℕ) → Option Route
 built form.Job taken = option_and_then (λ client. option_map (λ number. Job client number) (named (codes "number") taken)) (named (codes "client") taken)
 built form.Import taken =
@@ -33,7 +33,7 @@ built form.Batch taken = option_map (λ batch. Batch batch) (named (codes "batch
 built form.Report taken = option_map (λ batch. Report batch) (named (codes "batch") taken)
 built form.Blanks taken = option_map (λ product. Blanks product) (named (codes "product") taken)
 
--- what the router keeps of each form
+-- the row of the router for a form
 abbrev pub kept_as : List ℕ → List ℕ → List (ℕ × ℕ) → Form → RouteOf Form
 kept_as pattern text names form = record { pattern = pattern; text = text; names = names; value = form }
 
@@ -54,7 +54,7 @@ report_form = kept_as (codes "/batch/" ++ 256 ∷ codes "/report") (codes "/batc
 abbrev pub blanks_form : RouteOf Form
 blanks_form = kept_as (codes "/blanks/" ++ 256 ∷ []) (codes "/blanks/{product}") ((9, 16) ∷ []) form.Blanks
 
--- what the router keeps, in its order
+-- the rows of the router, in its order
 abbrev pub forms : RowsOf (RouteOf Form)
 forms =
     (report_form.pattern, report_form) ∷ (batch_form.pattern, batch_form) ∷ (blanks_form.pattern, blanks_form)

@@ -1,11 +1,11 @@
--- The targets that are served (this project's profile).
+-- Defines the paths that the server serves (this project's profile).
 use Rattle.std.specs.Prelude.{ℕ, ◌==◌, ◌&&◌, Bool, nat_lt, if◌then◌else◌, List, [], ◌∷◌, length, bytes_eq, codes, Option, Some, None}
 use Rattle.std.specs.List.{list_all}
 use Rattle.std.specs.Str.{is_utf8}
 use Rattle.http_messages.specs.declared.reply.Method.{Method}
 use Rattle.http_messages.specs.declared.reply.Method.TheVariants.{Get, Post}
 
--- what a target names, by its parts
+-- the parts of a path that the server serves
 pub data Route : Type 0 where
   Job : (client number : List ℕ) → Route
   Import : (client number batch product : List ℕ) → Route
@@ -13,17 +13,17 @@ pub data Route : Type 0 where
   Report : (batch : List ℕ) → Route
   Blanks : (product : List ℕ) → Route
 
--- the parts between slashes, the first of which is this one, in front of those that follow
+-- the segments with the byte `b` before the first one
 abbrev pub led : ℕ → List (List ℕ) → List (List ℕ)
 led b [] = (b ∷ []) ∷ []
 led b (part ∷ parts) = (b ∷ part) ∷ parts
 
--- the parts of a text that slashes divide
+-- the segments of a text, which are separated by slashes
 abbrev pub parts : List ℕ → List (List ℕ)
 parts [] = [] ∷ []
 parts (b ∷ text) = if b == 47 then [] ∷ parts text else led b (parts text)
 
--- by the parts behind the first slash
+-- the route with these segments after the first slash
 abbrev pub route_by : List (List ℕ) → Option Route
 route_by (a ∷ b ∷ []) =
     if bytes_eq a (codes "batch") then Some (Batch b)
@@ -42,7 +42,8 @@ has_no_empty parts = list_all (λ (part : List ℕ). nat_lt 0 (length part)) par
 abbrev pub route_among : List (List ℕ) → Option Route
 route_among parts = if has_no_empty parts then route_by parts else None
 
--- it begins with a slash, and is UTF-8, as every target that came is
+-- the route of a path, which must begin with a slash and be UTF-8; the path of a valid head is
+-- always UTF-8
 unfoldable pub route_in : List ℕ → Option Route
 route_in [] = None
 route_in (b ∷ rest) = if b == 47 && is_utf8 rest then route_among (parts rest) else None

@@ -1,4 +1,4 @@
-//! What a message asks for.
+//! Converts messages to requests.
 ghost use Rattle.std.specs.Prelude.{◌≡◌, ◌++◌, [], ◌∷◌, Err, IfOk, Ok, OnOk};
 ghost use Rattle.std.specs.Prelude.{bytes_eq, if◌then◌else◌};
 ghost use Rattle.store_data.specs.Name.{is_name};
@@ -21,11 +21,11 @@ use std::fmt;
 use store_data::{Bytes, Name};
 use text_io::number_in;
 
-/// The most bytes of what follows the number in a target: two names of at most 32 characters with
-/// what stands before them.
+/// The maximum size of the part of an import's path after the request number: two names of at most
+/// 32 characters, and the text before each of them.
 const MOST_TAIL: usize = 72;
 
-/// An account that is asked for.
+/// An account or a report that a message asks for.
 #[derive(Clone, Copy, PartialEq, Eq)]
 pub enum Wanted {
     /// The account of a batch.
@@ -36,21 +36,21 @@ pub enum Wanted {
     Blanks(Name),
 }
 
-/// What a message asks for.
+/// The request of a message.
 #[derive(Drop)]
 pub enum Asked {
-    /// A call under its client's number.
+    /// A call with its client and request number.
     Arrival(Arrival),
-    /// An account, which changes nothing.
+    /// An account or a report, which changes nothing.
     Account(Wanted),
 }
 
-/// Why a message asks for nothing.
+/// The reason why a message has no request.
 #[derive(Clone, Copy, Debug, PartialEq, Eq)]
 pub enum AskFault {
-    /// Its target, its method, a name, a number or its JSON isn't as it has to be.
+    /// The path, the method, a name, a number or the JSON body is invalid.
     Refused(FixedReply),
-    /// Memory was refused.
+    /// An allocation failed.
     Memory,
 }
 
@@ -90,8 +90,13 @@ impl From<AllocError> for AskFault {
     }
 }
 
-/// What a message asks for, by its target, its method and its body; else the first test that it
-/// fails: `NoRoute`, `OnlyMethod`, `Malformed`. Errors: these, and refused memory as `Memory`.
+/// Returns the request of `message`.
+///
+/// # Errors
+///
+/// - `Refused`: the fixed response for the first of these tests that fails: `NoRoute` for the path,
+///   `OnlyMethod` for the method, `Malformed` for the names, the number and the body.
+/// - `Memory`: an allocation fails.
 pub fn to_ask(alloc: Global, message: Message) -> Result<Asked, AskFault>
     ensures asked { IsAsked (asked_of (as_parts message)) result }
     ensures ranged { IfOk result IsInRange }
@@ -99,7 +104,7 @@ pub fn to_ask(alloc: Global, message: Message) -> Result<Asked, AskFault>
     to_ask_by(&mut Routes::new(), alloc, message)
 }
 
-/// The same, where one router serves many messages.
+/// Returns the request of `message`, as `to_ask` does, with a router that many messages share.
 pub(crate) fn to_ask_by(
     routes: &mut Routes,
     alloc: Global,
@@ -121,7 +126,7 @@ pub(crate) fn to_ask_by(
     ask_in(alloc, route, body)
 }
 
-// Whether a message's method is that of its target.
+// Returns `true` if `text` is the name of `method`.
 fn has_method(text: &[u8], method: Method) -> bool
     ensures { result ≡ bytes_eq text.now (method_text method) }
 {
@@ -132,7 +137,7 @@ fn has_method(text: &[u8], method: Method) -> bool
     text == wanted.as_str().as_bytes()
 }
 
-// By the route of the target, whose method the message has.
+// Returns the request of a message with this route and this body. Its method has been checked.
 fn ask_in(alloc: Global, route: Route<'_>, body: Bytes) -> Result<Asked, AskFault>
     ensures asked { IsAsked (or_malformed (ask_in (shown route.entry) body)) result }
     ensures ranged { IfOk result IsInRange }
@@ -151,7 +156,7 @@ fn ask_in(alloc: Global, route: Route<'_>, body: Bytes) -> Result<Asked, AskFaul
     }
 }
 
-// A call in JSON, under a client's number.
+// Returns the request in a JSON body, with its client and request number.
 fn job(alloc: Global, client: &[u8], number: &[u8], body: Bytes) -> Result<Asked, AskFault>
     ensures asked { IsAsked (or_malformed (ask_in (Job client.now number.now) body)) result }
     ensures ranged { IfOk result IsInRange }
@@ -168,7 +173,7 @@ fn job(alloc: Global, client: &[u8], number: &[u8], body: Bytes) -> Result<Asked
     }))
 }
 
-// A batch file for a product, under a client's number.
+// Returns the import of a batch file, with its client and request number.
 fn import(
     alloc: Global,
     client: &[u8],
@@ -206,7 +211,8 @@ fn name_in(text: &[u8]) -> Result<Name, FixedReply>
     Name::new(text).ok_or(FixedReply::Malformed)
 }
 
-// What a repeat of a request in JSON has to have alike: a byte 00, and the body.
+// Returns the request bytes of a request in JSON, which a repeat must have too: a byte 00 and the
+// body.
 fn job_ask(alloc: Global, body: &[u8]) -> Result<Bytes, AllocError>
     ensures { IfOk result (λ ask. ask ≡ ask_with [] body.now) }
 {
@@ -215,8 +221,8 @@ fn job_ask(alloc: Global, body: &[u8]) -> Result<Bytes, AllocError>
     Ok(Bytes::from_vec(ask))
 }
 
-// What a repeat of an import has to have alike: what follows the number in the target, a byte 00,
-// and the body.
+// Returns the request bytes of an import, which a repeat must have too: the part of the path after
+// the request number, a byte 00, and the body.
 fn import_ask(alloc: Global, batch: &Name, product: &Name, body: &[u8]) -> Result<Bytes, AllocError>
     ensures { IfOk result (λ ask. ask ≡ ask_with (import_tail batch.now product.now) body.now) }
 {
@@ -226,7 +232,11 @@ fn import_ask(alloc: Global, batch: &Name, product: &Name, body: &[u8]) -> Resul
     Ok(Bytes::from_vec(ask))
 }
 
-/// Adds what follows the number in an import's target.
+/// Appends the part of an import's path after the request number to `text`.
+///
+/// # Errors
+///
+/// Returns `AllocError` if an allocation fails.
 pub fn push_import_tail(text: &mut Vec<u8>, batch: &Name, product: &Name) -> Result<(), AllocError>
     ensures tail { OnOk result (text.new.items ≡ text.old.items
         ++ import_tail batch.now product.now) }
@@ -238,7 +248,7 @@ pub fn push_import_tail(text: &mut Vec<u8>, batch: &Name, product: &Name) -> Res
     text.extend_from_slice(product.bytes())
 }
 
-// Adds a byte 00, and the body.
+// Appends a byte 00 and the body.
 fn push_body(ask: &mut Vec<u8>, body: &[u8]) -> Result<(), AllocError>
     ensures { OnOk result (ask.new.items ≡ ask.old.items ++ 0 ∷ body.now) }
 {

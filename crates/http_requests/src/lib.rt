@@ -1,5 +1,4 @@
-//! What a message asks: its target, its method, its names and its JSON; and the messages that
-//! clients post.
+//! Converts HTTP messages to requests, and makes the messages that clients send.
 #![tactic(auto)]
 
 mod ask;

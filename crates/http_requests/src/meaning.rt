@@ -1,4 +1,4 @@
-//! What the bytes of a connection mean.
+//! Reads the bytes of a connection as a request.
 ghost use Rattle.std.specs.Prelude.{ℕ, List};
 ghost use Rattle.http_messages.specs.Messages.{Agrees, as_parts};
 ghost use Rattle.http_requests.specs.Asks.{asked_of};
@@ -9,20 +9,20 @@ use crate::route::Routes;
 use http_messages::{ByteSource, FixedReply, Message, Reading, read_message};
 use std::alloc::Global;
 
-/// What the bytes of a connection mean.
+/// The meaning of the bytes of a connection.
 #[derive(Drop)]
 pub enum Meaning {
-    /// A message came, and asks for this.
+    /// A complete message with a request.
     Asks(Asked),
-    /// The bytes ended before the message did.
+    /// Bytes that ended before the message was complete.
     Broken,
-    /// The message, or its head, fails a test.
+    /// An invalid message or head, with its fixed response.
     Refused(FixedReply),
-    /// A head came that passes its tests, and memory was refused.
+    /// A valid head, after which an allocation failed.
     Memory,
 }
 
-/// Reads one message, and what it asks. Bytes behind it are ignored.
+/// Reads one message and returns its meaning. Bytes after the message are ignored.
 pub fn read_meaning<I: ByteSource>(routes: &mut Routes, alloc: Global, incoming: &mut I) -> Meaning
     ensures { (bytes : List ℕ) × Agrees (I.brings incoming.old) bytes × IsMeant bytes result }
 {

@@ -1,4 +1,4 @@
-//! The messages that clients post.
+//! Makes the messages that clients send.
 ghost use Rattle.std.specs.Prelude.{◌≡◌, ◌<◌, ◌≤◌, ◌^◌, [], IfOk, OnOk, Some, length, true};
 ghost use Rattle.std.specs.List.{list_all};
 ghost use Rattle.job_facts.specs.Sound.{IsName};
@@ -18,11 +18,16 @@ use itoa::Buffer;
 use std::alloc::{AllocError, Global};
 use store_data::{Bytes, Name};
 
-/// Room for a head: a target with three names and a number of 18 digits, and the lines around it.
+/// The space reserved for a head: a path with three names and a number of 18 digits, and the lines
+/// around it.
 const MOST_HEAD: usize = 256;
 
-/// The message that posts a body under a client's number, 1 to 999,999,999,999,999,999, and what it
-/// means: the call that the body is in JSON. It fails only where memory is refused.
+/// Returns the message in which `client` sends the JSON request `body` with the request number
+/// `number`, 1 to 999,999,999,999,999,999.
+///
+/// # Errors
+///
+/// Returns `AllocError` if an allocation fails.
 pub fn job_text(alloc: Global, client: &Name, number: u64, body: &[u8]) -> Result<Bytes, AllocError>
     requires least { 1 ≤ number }
     requires most { number < 10 ^ 18 }
@@ -34,9 +39,12 @@ pub fn job_text(alloc: Global, client: &Name, number: u64, body: &[u8]) -> Resul
     text_with(alloc, client, number, b"", body)
 }
 
-/// The message that posts a batch file for a product under a client's number, 1 to
-/// 999,999,999,999,999,999, and what it means: the import of that file. It fails only where memory
-/// is refused.
+/// Returns the message in which `client` imports the batch file `raw` as the batch `batch` of the
+/// product `product`. Its request number is `number`, 1 to 999,999,999,999,999,999.
+///
+/// # Errors
+///
+/// Returns `AllocError` if an allocation fails.
 pub fn import_text(
     alloc: Global,
     client: &Name,
@@ -59,7 +67,7 @@ pub fn import_text(
     text_with(alloc, client, number, &tail, raw)
 }
 
-// By what follows the number in the target.
+// Makes a message whose path has `tail` after the request number.
 fn text_with(
     alloc: Global,
     client: &Name,

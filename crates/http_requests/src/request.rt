@@ -1,4 +1,4 @@
-//! Requests in JSON (RFC 8259).
+//! Parses requests in JSON (RFC 8259).
 ghost use Rattle.std.specs.Prelude.{◌≡◌, ◌<◌, ◌≤◌, ◌^◌, IfOk, IfSome};
 ghost use Rattle.job_facts.specs.Requests.{IsCall, IsRequest};
 ghost use Rattle.serde_json.specs.View.{view};
@@ -16,11 +16,14 @@ use std::alloc::{AllocError, Global};
 use store_data::Product;
 use text_io::status_word;
 
-/// The largest serial, session and number (this project's profile).
+/// The largest serial, session number and request number (this project's profile).
 const MOST_SERIAL: u64 = 999_999_999_999_999_999;
 
-/// The call that a body is, if it is one (this project's profile). It fails only where memory is
-/// refused.
+/// Returns the call in `body`, or `None` if it is invalid (this project's profile).
+///
+/// # Errors
+///
+/// Returns `AllocError` if an allocation fails.
 #[tactic(auto, unfolding(crate::specs::Requests::call_in))]
 pub(crate) fn call_of(alloc: Global, body: &[u8]) -> Result<Option<Call>, AllocError>
     ensures value { IfOk result (λ r. r ≡ call_in body.now) }
@@ -32,7 +35,7 @@ pub(crate) fn call_of(alloc: Global, body: &[u8]) -> Result<Option<Call>, AllocE
     }
 }
 
-// ---- calls, each by its members
+// ---- calls and their members
 
 #[tactic(auto, unfolding(crate::specs::Requests::call_of_value))]
 fn call_of_value(value: &Value) -> Option<Call>
@@ -65,7 +68,8 @@ fn release_in(value: &Value) -> Option<Call>
     Some(Call::Release { upto })
 }
 
-// By the word of `do`, and by the count of the members, which leaves no room for a further one.
+// Returns the request with this `do` and this number of members. The number is compared, because an
+// additional member makes a request invalid.
 #[tactic(auto, unfolding(crate::specs::Requests::request_by_word))]
 fn request_by_word(word: &str, count: usize, value: &Value) -> Option<Request>
     ensures value { result ≡ request_by_word word.now count (view value.now) }
@@ -201,7 +205,7 @@ fn close_in(value: &Value) -> Option<Request>
 
 // ---- members
 
-// How many members an object has.
+// Returns the number of members of an object.
 fn count_in(value: &Value) -> Option<usize>
     ensures { result ≡ count_in (view value.now) }
 {
@@ -215,7 +219,7 @@ fn flag_at(value: &Value, key: &str) -> Option<bool>
     value.get(key)?.as_bool()
 }
 
-// A number from the least to the most.
+// Returns the number in the member `key` if it is in the range `least` to `most`.
 #[tactic(auto, unfolding(crate::specs::Requests::number_within))]
 fn number_within(value: &Value, key: &str, least: u64, most: u64) -> Option<u64>
     ensures value { result ≡ number_within least most key.now (view value.now) }

@@ -1,4 +1,4 @@
-//! The targets that are served.
+//! Recognizes the paths that the server serves.
 ghost use Rattle.std.specs.Prelude.{◌≡◌, IfOk, IsUtf8, option_map};
 ghost use Rattle.std.specs.Option.{ForSome};
 ghost use Rattle.matchit.specs.Params.{AllText, named};
@@ -10,15 +10,15 @@ use matchit::{InsertError, Params, Router};
 use std::alloc::{AllocError, Global};
 use std::str::from_utf8;
 
-/// What a target names, by its parts.
+/// The parts of a path that the server serves.
 #[derive(Clone, Copy)]
 pub(crate) enum Route<'a> {
-    /// A request of a client, under a number.
+    /// A request in JSON, with its client and request number.
     Job {
         client: &'a [u8],
         number: &'a [u8],
     },
-    /// A batch file for a product, from a client, under a number.
+    /// A batch file for a product, with its client and request number.
     Import {
         client: &'a [u8],
         number: &'a [u8],
@@ -33,7 +33,7 @@ pub(crate) enum Route<'a> {
     Blanks(&'a [u8]),
 }
 
-// The forms of targets that are served.
+// The forms of paths that the server serves.
 #[derive(Clone, Copy)]
 enum Form {
     Job,
@@ -44,7 +44,7 @@ enum Form {
 }
 
 impl Route<'_> {
-    /// The method that the target has.
+    /// Returns the only method that the path allows.
     pub fn method(&self) -> Method
         ensures { result ≡ method_of (shown self.now) }
     {
@@ -55,8 +55,7 @@ impl Route<'_> {
     }
 }
 
-/// The targets that are served, for many messages: the first one that is asked about builds the
-/// router, and the others find it.
+/// The router. It is built for the first message and then shared by all messages.
 #[derive(Drop)]
 pub struct Routes {
     router: Option<Router<Form>>,
@@ -64,12 +63,16 @@ pub struct Routes {
 }
 
 impl Routes {
-    /// Takes no memory yet.
+    /// Creates the value without a router. Allocates nothing.
     pub fn new() -> Routes {
         Routes { router: None }
     }
 
-    /// What a target names, if it is served. Errors: memory was refused.
+    /// Returns the route of the path `target`, or `None` if the server doesn't serve it.
+    ///
+    /// # Errors
+    ///
+    /// Returns `AllocError` if an allocation fails.
     pub(crate) fn find<'a>(
         &mut self,
         alloc: Global,
@@ -90,7 +93,7 @@ impl Routes {
     }
 }
 
-// What a path names, by the router.
+// Returns the route of `path`, with the router.
 fn route_at<'a>(router: &Router<Form>, path: &'a str) -> Option<Route<'a>>
     requires forms { router.now ≡ forms }
     requires text { IsUtf8 path.now }
@@ -102,7 +105,7 @@ fn route_at<'a>(router: &Router<Form>, path: &'a str) -> Option<Route<'a>>
     }
 }
 
-// The forms of targets, each with its pattern.
+// Builds the router, which has a pattern for each form of path.
 fn router(alloc: Global) -> Result<Router<Form>, InsertError>
     ensures { IfOk result (λ router. router ≡ forms) }
 {
@@ -115,7 +118,7 @@ fn router(alloc: Global) -> Result<Router<Form>, InsertError>
     Ok(router)
 }
 
-// A target of a form, by what its parameters took.
+// Returns the route of this form whose parts are `params`.
 fn route_by<'a>(form: Form, params: &Params<'_, 'a>) -> Option<Route<'a>>
     ensures { AllText (taken params.now) → option_map shown result ≡ built form (taken params.now) }
 {
@@ -136,7 +139,7 @@ fn route_by<'a>(form: Form, params: &Params<'_, 'a>) -> Option<Route<'a>>
     }
 }
 
-// What the parameter of this name took.
+// Returns the value of the parameter `name`.
 fn part<'a>(params: &Params<'_, 'a>, name: &str) -> Option<&'a [u8]>
     ensures { AllText (taken params.now)
         → option_map (λ part. part.now) result ≡ named name.now (taken params.now) }

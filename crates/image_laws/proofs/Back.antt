@@ -1,4 +1,4 @@
--- What the rows of an image give back of its batches and sessions.
+-- The batches and sessions that the rows of an image determine.
 use Rattle.std.proofs.Common.{◌≡◌, ℕ, suc, ◌+◌, ◌||◌, true, List, [], ◌∷◌, length, find, slice_get, bytes_eq, Option, Some, None, option_map, option_and_then, unwrap_or, inl, inr, refl, sym, ap, subst, ◌∙◌, arith}
 use Rattle.std.specs.List.{cons_option, list_any, position_or_len}
 use Rattle.std.proofs.lemmas.Bool.{cases_Bool, cond-true, cond-false, false≢true}
@@ -17,9 +17,10 @@ use Rattle.image_laws.proofs.Lookups.{batch_rows, found_in_any_order, is_batch_r
 use Rattle.image_laws.proofs.Named.{batch_there, has_name}
 use Rattle.image_laws.specs.Decided.{batch_name, batch_of_row, batch_with, found_from, record_name, session_of_row, session_with, word_with}
 
--- ---- lists by their places
+-- ---- lists by index
 
--- a look-up that finds the elements of a list in their places finds the list
+-- If a look-up of each number finds the element at this index, the look-ups of all numbers find the
+-- list.
 pub found_from_is : {X : Type 0} (look : ℕ → Option X) (xs : List X) (n : ℕ) → ((j : ℕ) → look (n + j) ≡ slice_get xs j) → found_from look n (length xs) ≡ xs
 found_from_is look [] n at = refl
 found_from_is look (x ∷ xs) n at =
@@ -28,7 +29,7 @@ found_from_is look (x ∷ xs) n at =
     let later = λ (j : ℕ). let e : n + suc j ≡ n + 1 + j = omega arith in subst (λ q. look q ≡ slice_get xs j) e (at (suc j)) in
     ap (λ o. cons_option o (found_from look (n + 1) (length xs))) first ∙ ap (λ ys. x ∷ ys) (found_from_is look xs (n + 1) later)
 
--- a name that is there stands in its place
+-- A look-up of a name that the list contains finds this name.
 find_name : (r : List ℕ) (names : List (List ℕ)) → list_any (bytes_eq r) names ≡ true → find (bytes_eq r) names ≡ Some r
 find_name r [] there = absurd (false≢true there)
 find_name r (n ∷ names) there = elim (cases_Bool (bytes_eq r n)) [
@@ -43,7 +44,7 @@ module _ (c : Contents) (t : Tables) (sound : AreSound c) (same : HaveSameRows t
   abbrev f : Facts
   f = c.facts
 
-  -- ---- what is found
+  -- ---- look-ups
 
   batch_found : (k : ℕ) → find (is_batch_row (1 + k)) t.batches ≡ option_map (λ (b : Batch). stored_batch f (1 + k, b)) (slice_get f.batches k)
   batch_found k = found_in_any_order (is_batch_row (1 + k)) t.batches (stored_batches f) _ same.batches (batch_rows f k)

@@ -20,7 +20,7 @@ use Rattle.image_laws.proofs.Products.{rows_after_product}
 use Rattle.image_laws.proofs.Remaking.{rows_after_remake, rows_after_withdrawal}
 use Rattle.image_laws.proofs.Words.{rows_after_last_word, rows_after_word}
 
--- the rows after a writing are those after what it is
+-- The rows after `change` are the rows after executing `w`.
 abbrev AreAfter : Contents → Change → Writing → Type 0
 AreAfter c change w = HaveSameRows (image (record c { facts = changed c.facts change })) (rows_after w (image c))
 

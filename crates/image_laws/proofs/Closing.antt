@@ -1,4 +1,4 @@
--- The rows after a batch was closed.
+-- The rows after a batch is closed.
 use Rattle.std.proofs.Common.{◌≡◌, ℕ, ◌||◌, true, cond, List, [], ◌∷◌, map, inl, inr, refl, sym, ap, ◌∙◌}
 use Rattle.std.specs.Prelude.{bytes_eq}
 use Rattle.std.proofs.Math.Bool.{or-false}
@@ -36,7 +36,7 @@ module _ (f : Facts) (name : List ℕ) where
   is_closed_now : (b : List ℕ) → is_closed with_closed b ≡ (is_closed f b || bytes_eq b name)
   is_closed_now b = list_any-append (bytes_eq b) f.closed (name ∷ []) ∙ ap (λ t. is_closed f b || t) (or-false (bytes_eq b name))
 
-  -- a batch's row after it
+  -- the row of a batch after the close
   batch_row : IsSound f → (e : ℕ × Batch) → stored_batch with_closed e ≡ closed_set name (stored_batch f e)
   batch_row sound e =
       let b = e.1.name in

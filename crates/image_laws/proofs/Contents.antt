@@ -1,4 +1,4 @@
--- The rows of sound contents give these back; so contents with the same rows are the same.
+-- The rows of sound contents determine these contents, so contents with the same rows are the same.
 use Rattle.job_facts.specs.Contents.{AreSame, AreSound, Contents}
 use Rattle.job_facts.proofs.NextContents.{between}
 use Rattle.table_rows.specs.Tables.{HaveSameRows, Tables}

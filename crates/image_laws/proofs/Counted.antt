@@ -1,4 +1,4 @@
--- Lists in which each element stands as often are the same up to their order.
+-- Lists in which each element occurs equally often are permutations of each other.
 use Rattle.std.proofs.Common.{◌≡◌, ◌⊎◌, ℕ, ◌+◌, ◌*◌, ◌<◌, ◌≤◌, Bool, true, false, cond, List, [], ◌∷◌, ◌++◌, get_or, replicate, All, AllPairs, count_by, inl, inr, sym, ap, subst, ◌∙◌, arith, mul-one, mul-zero, zero-mul, one-mul, add-mul, IsPermutation}
 use Rattle.std.specs.List.{flat_map, list_any}
 use Rattle.std.proofs.Math.Nat.{eq-zero-or-pos}
@@ -12,12 +12,12 @@ use Rattle.step_laws.proofs.Permuted.{PassAlone, at_most_one}
 abbrev one : Bool → ℕ
 one b = cond {A = ℕ} b 1 0
 
--- each name so often
+-- the names of the elements, each repeated `many` times
 abbrev pub spread : {X K : Type 0} → (X → K) → (K → ℕ) → List X → List K
 spread name many xs = flat_map (λ x. replicate (many (name x)) (name x)) xs
 
 module _ {K : Type 0} (same : K → K → Bool) (exact : (x y : K) → same x y ≡ true → x ≡ y) (itself : (x : K) → same x x ≡ true) where
-  -- what counts stands somewhere
+  -- An element that is counted at least once is at some index.
   split_at : (x : K) (ys : List K) → 1 ≤ count_by (same x) ys → (before : List K) × (after : List K) × (ys ≡ before ++ x ∷ after)
   split_at x [] some = absurd (omega arith)
   split_at x (y ∷ ys) some = elim (cases_Bool (same x y)) [
@@ -43,7 +43,7 @@ module _ {K : Type 0} (same : K → K → Bool) (exact : (x y : K) → same x y 
       (IsPermutation-trans _ _ _ (IsPermutation-cons x xs (there.0 ++ there.1) (counted_alike xs (there.0 ++ there.1) others))
       (IsPermutation-sym _ _ (IsPermutation-middle there.0 x there.1)))
 
-  -- ---- where each stands once
+  -- ---- lists without duplicates
 
   pub once_or_none : (xs : List K) → AllPairs (λ x y. same y x ≡ false) xs → (z : K) → count_by (same z) xs ≡ cond (list_any (same z) xs) 1 0
   once_or_none xs once z = elim (cases_Bool (list_any (same z) xs)) [
@@ -60,7 +60,7 @@ module _ {K : Type 0} (same : K → K → Bool) (exact : (x y : K) → same x y 
       few_is : count_by (same z) xs ≡ 1 → list_any (same z) xs ≡ true → count_by (same z) xs ≡ cond (list_any (same z) xs) 1 0
       few_is is there = is ∙ sym (cond-true {A = ℕ} (list_any (same z) xs) 1 0 there)
 
-  -- ---- names that are spread
+  -- ---- repeated names
 
   module _ {X : Type 0} (name : X → K) (many : K → ℕ) where
     counted_in : (z : K) (xs : List X) → count_by (same z) (spread name many xs) ≡ count_by (λ x. same z (name x)) xs * many z
@@ -86,7 +86,8 @@ module _ {K : Type 0} (same : K → K → Bool) (exact : (x y : K) → same x y 
             ap (λ n. n + count_by (λ y. same z (name y)) xs * many z)
             (ap (λ n. many (name x) * n) is ∙ mul-zero (many (name x)) ∙ sym (zero-mul (many z)) ∙ ap (λ n. n * many z) (sym is))
 
-    -- as often as a list has them, each of which is a name once
+    -- If each name is repeated as often as it occurs in `zs`, and each element of `zs` is the name
+    -- of exactly one element of `xs`, the repeated names are a permutation of `zs`.
     pub spreads : (xs : List X) (zs : List K) → ((z : K) → many z ≡ count_by (same z) zs) → All (λ z. count_by (λ x. same z (name x)) xs ≡ 1) zs
         → IsPermutation (spread name many xs) zs
     spreads xs zs counts once = counted_alike (spread name many xs) zs (λ z. counted_in z xs ∙ at z (eq-zero-or-pos (count_by (same z) zs)))

@@ -1,4 +1,4 @@
--- The rows after the end of a session.
+-- The rows after a session is ended.
 use Rattle.std.proofs.Common.{◌≡◌, ℕ, ◌+◌, false, List, refl, sym, subst}
 use Rattle.job_facts.specs.declared.change.Change.TheVariants as change
 use Rattle.job_facts.specs.declared.facts.RecordState.TheVariants as rec

@@ -1,4 +1,4 @@
--- A batch file without a fault: the rows that come of it, and how many records they make.
+-- A batch file without a fault: its rows, and the number of its records.
 use Rattle.std.proofs.Common.{◌≡◌, ℕ, List, [], ◌∷◌, length, map, Option, Some, None, Result, Ok, Err, ap, ◌∙◌}
 use Rattle.std.specs.List.{enumerate_from}
 use Rattle.std.proofs.lemmas.List.{length-map}
@@ -12,7 +12,7 @@ use Rattle.batch_import.proofs.OutlineLemmas.{keys_of_numbered}
 abbrev by_fault : ℕ → List Row → Option RowFault → Result (List Row) RowFault
 by_fault m rows o = elim o as (λ _. Result (List Row) RowFault) [ Some fault ↦ Err fault | None ↦ planned_rows m rows ]
 
--- its rows are those that come of it
+-- The rows of the file are the rows that its reading produces.
 pub rows_come : (p : Product) (raw : List ℕ) (rows : List Row) → batch_of p raw ≡ Ok rows → (coming_of p.check raw).rows ≡ rows
 unfolding batch_of
 rows_come p raw rows read = at (coming_of p.check raw).fault (coming_of p.check raw).rows read
@@ -26,7 +26,7 @@ rows_come p raw rows read = at (coming_of p.check raw).fault (coming_of p.check 
     at None [] e = absurd (cc)
     at None (row ∷ more) e = unless (first_record_fault p.max (records_of_rows (row ∷ more))) (row ∷ more) e
 
--- each record has a name of its own
+-- The number of records is the number of different record names.
 pub each_record_named : (rows : List Row) → length (records_of_rows rows) ≡ length (first_appearances (map (λ (row : Row). row.rec) rows))
 unfolding grouped
 each_record_named rows =

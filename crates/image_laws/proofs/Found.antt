@@ -1,4 +1,4 @@
--- What passes a test in a list: the one that does, none, and one at its place.
+-- Elements that satisfy a predicate: exactly one, none, or one at its index.
 use Rattle.std.proofs.Common.{◌≡◌, suc, ◌+◌, Bool, true, not, cond, List, [], ◌∷◌, ◌++◌, length, get_or, All, Option, Some, None, inl, inr, refl, sym, ap, subst, ◌∙◌, arith}
 use Rattle.std.specs.Prelude.{AllPairs, IsSome, find}
 use Rattle.std.specs.List.{position_or_len}
@@ -13,7 +13,7 @@ some_there None is = absurd (false≢true is)
 some_there (Some x) is = (x, refl)
 
 module _ {X : Type 0} (p : X → Bool) where
-  -- the one that is found passes, and no other does
+  -- The element that a look-up finds satisfies `p`, and no other element does.
   pub found_alone : (xs : List X) (x : X) → AllPairs (PassAlone p) xs → find p xs ≡ Some x → (p x ≡ true) × All (λ y. p y ≡ true → y ≡ x) xs
   found_alone [] x once is = absurd (none-some x is)
   found_alone (y ∷ xs) x once is = elim (cases_Bool (p y)) [
@@ -28,13 +28,13 @@ module _ {X : Type 0} (p : X → Bool) where
         (rest.0, All-cons (λ z. p z ≡ true → z ≡ x) y xs (λ hit. absurd (both_ways (p y) miss hit)) rest.1)
   ]
 
--- how each of the others stands to the last
+-- If all pairs are in the relation, every other element is in the relation to the last one.
 pub to_last : {X : Type 0} (R : X → X → Type 0) (xs : List X) (x : X) → AllPairs R (xs ++ x ∷ []) → All (λ y. R y x) xs
 to_last R xs x pairs k d within =
     let there = pairs k (length xs) d within (omega (arith, length_push xs x)) in
     subst (λ y. R y x) (get_or_append_left xs (x ∷ []) d k within) (subst (R (get_or (xs ++ x ∷ []) k d)) (get_or_push xs x d (length xs) refl) there)
 
--- what is found is at the place where it was, with more behind it
+-- The index of the element that a look-up finds doesn't change if elements are appended.
 pub place_kept : {X : Type 0} (p : X → Bool) (xs ys : List X) (x : X) → find p xs ≡ Some x → position_or_len p (xs ++ ys) ≡ position_or_len p xs
 place_kept p [] ys x is = absurd (none-some x is)
 place_kept p (y ∷ xs) ys x is = elim (cases_Bool (p y)) [

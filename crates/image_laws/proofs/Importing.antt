@@ -1,4 +1,4 @@
--- The rows after a batch was imported.
+-- The rows after a batch is imported.
 use Rattle.std.proofs.Common.{◌≡◌, ℕ, ◌+◌, Bool, true, false, cond, List, [], ◌∷◌, ◌++◌, length, map, All, Option, Some, None, refl, sym, ap, subst, ◌∙◌, arith, append-nil, IsPermutation}
 use Rattle.std.specs.Prelude.{AllPairs, IsSome, IsTrue, bytes_eq, count_by}
 use Rattle.std.specs.List.{enumerate_from, flat_map, list_any, range_with_len}
@@ -44,7 +44,7 @@ use Rattle.image_laws.proofs.Lists.{All-numbered, flat_map_same, pushed, unmoved
 use Rattle.image_laws.proofs.OneRecord.{turned}
 use Rattle.image_laws.proofs.Staying.{cursor_kept, record_kept, session_alike, session_states_kept, totals_are}
 
--- ---- records that all wait
+-- ---- records that are all waiting
 
 count_all : (q : RecordState → Bool) (names : List (List ℕ)) → q rec.Waiting ≡ true → count_by q (map (λ r. rec.Waiting) names) ≡ length names
 count_all q [] waits = refl
@@ -60,7 +60,7 @@ count_none q (n ∷ names) other =
     let none : cond {A = ℕ} (q rec.Waiting) 1 0 ≡ 0 = ap (λ b. cond {A = ℕ} b 1 0) other in
     omega (arith, none, sum_by-cons (λ state. cond {A = ℕ} (q state) 1 0) rec.Waiting (waiting names), count_none q names other)
 
--- a batch with a record is there
+-- A batch that contains a record exists.
 record_there : (products : List Product) (o : Option Batch) (r : List ℕ) → IsTrue (list_any (bytes_eq r) (records_under products o)) → IsSome o
 record_there products None r is = is
 record_there products (Some b) r is = refl
@@ -80,7 +80,7 @@ module _ (f : Facts) (new : Batch) (sound : IsSound f) (after : IsSound (with_ba
       let states : states_of g b r ≡ states_of f b r = states_known f g b r sound knows refl in
       record { states = states; withdrawn = refl; remakes = refl; stands = record_same f g b r states refl refl }
 
-  -- ---- no other batch has the name
+  -- ---- no other batch has the name of the new one
 
   abbrev has_name : Batch → Bool
   has_name b = bytes_eq b.name new.name
@@ -92,7 +92,7 @@ module _ (f : Facts) (new : Batch) (sound : IsSound f) (after : IsSound (with_ba
       (λ b alone. false_from_ne_true (has_name b) (λ same. both_ways (has_name new) (alone same) (bytes_eq-same new.name)))
       f.batches (to_last (PassAlone has_name) f.batches new once)
 
-  -- a name that is there is another
+  -- The name of an existing batch isn't the name of the new batch.
   other_there : (n : List ℕ) (b : Batch) → batch_named f.batches n ≡ Some b → bytes_eq n new.name ≡ false
   other_there n b there =
       let passes : bytes_eq b.name n ≡ true = (found_alone (λ (x : Batch). bytes_eq x.name n) f.batches b (named_once (λ (x : Batch). x.name) f.batches n sound.named.batches.once) there).0 in
@@ -107,7 +107,7 @@ module _ (f : Facts) (new : Batch) (sound : IsSound f) (after : IsSound (with_ba
   other_sessions : All (λ (s : Session). bytes_eq s.batch new.name ≡ false) f.sessions
   other_sessions = All-weaker (IsSession f) (λ (s : Session). bytes_eq s.batch new.name ≡ false) (λ s is. other_there s.batch is.batch is.batch_is) f.sessions sound.sessions.each
 
-  -- what is named so stays
+  -- A look-up of another name finds the same batch as before.
   named_other : (n : List ℕ) → bytes_eq n new.name ≡ false → batch_named g.batches n ≡ batch_named f.batches n
   named_other n other =
       find-append (λ (b : Batch). bytes_eq b.name n) f.batches (new ∷ [])
@@ -118,13 +118,13 @@ module _ (f : Facts) (new : Batch) (sound : IsSound f) (after : IsSound (with_ba
       or_none None = refl
       or_none (Some b) = refl
 
-  -- the new batch is found under its name
+  -- A look-up of the new name finds the new batch.
   named_new : batch_named g.batches new.name ≡ Some new
   named_new =
       find-append has_name f.batches (new ∷ []) ∙ ap (λ o. option_or o (cond (has_name new) (Some new) None)) (find_none has_name f.batches others_named)
       ∙ ap (λ t. cond t (Some new) None) (bytes_eq-same new.name)
 
-  -- ---- other batches' rows, and sessions
+  -- ---- the rows of other batches, and sessions
 
   records_other : (n : List ℕ) → bytes_eq n new.name ≡ false → records_named g n ≡ records_named f n
   records_other n other = ap (records_under f.products) (named_other n other)
@@ -155,7 +155,7 @@ module _ (f : Facts) (new : Batch) (sound : IsSound f) (after : IsSound (with_ba
       (All-weaker (λ (e : ℕ × Session). IsSession f e.1) (λ e. stored_session g e ≡ stored_session f e) session_other
       (sessions_by_id f) (All-numbered (IsSession f) 1 f.sessions sound.sessions.each))
 
-  -- ---- the new batch's records
+  -- ---- the records of the new batch
 
   no_states : (r : List ℕ) → states_of g new.name r ≡ []
   no_states r =
@@ -186,7 +186,7 @@ module _ (f : Facts) (new : Batch) (sound : IsSound f) (after : IsSound (with_ba
       let state = waits r.1 in
       rw (states, remakes, state) refl
 
-  -- ---- lists of rows with those of the new batch behind them
+  -- ---- lists of rows to which the rows of the new batch are appended
 
   module _ {Y : Type 0} (then_rows now_rows : ℕ × Batch → List Y) (own : List Y) where
     rows_more : ((e : ℕ × Batch) → now_rows e ≡ then_rows e) → now_rows (last, new) ≡ own → flat_map now_rows (batches_by_id g) ≡ flat_map then_rows (batches_by_id f) ++ own
@@ -270,7 +270,7 @@ module _ (f : Facts) (new : Batch) (sound : IsSound f) (after : IsSound (with_ba
         (batches_by_id f) (All-numbered (λ b. has_name b ≡ false) 1 f.batches others_named)))
         ∙ ap (λ row. stored_batches f ++ row ∷ []) batch_new
 
--- what stands behind may stand in front
+-- An appended list may also be prepended.
 behind : {X : Type 0} (xs ys zs : List X) → zs ≡ xs ++ ys → IsPermutation zs (ys ++ xs)
 behind xs ys zs is = subst (λ l. IsPermutation l (ys ++ xs)) (sym is) (IsPermutation-append_comm xs ys)
 

@@ -1,5 +1,4 @@
--- Look-ups among rows: what is found by its key in rows in any order, and what stands in an image
--- under a key.
+-- Look-ups of keys in rows in any order, and the rows of an image with a key.
 use Rattle.std.proofs.Common.{◌≡◌, ℕ, zero, suc, ◌+◌, ◌<◌, ◌≤◌, ◌==◌, ◌&&◌, Bool, true, false, List, [], ◌∷◌, ◌++◌, length, map, filter, find, slice_get, Option, Some, None, option_map, option_and_then, option_to_list, inl, inr, refl, ap, ◌∙◌, arith, append-nil, IsPermutation}
 use Rattle.std.specs.List.{enumerate_from, flat_map}
 use Rattle.std.proofs.lemmas.Bool.{cases_Bool}
@@ -24,7 +23,7 @@ above a b low = grind (arith, nat_tests)
 -- ---- rows in any order
 
 module _ {X : Type 0} (p : X → Bool) where
-  -- what is found is the first that passes
+  -- A look-up finds the first element that satisfies `p`.
   pub find_first : (xs : List X) → find p xs ≡ slice_get (filter p xs) 0
   find_first [] = refl
   find_first (x ∷ xs) = elim (cases_Bool (p x)) [ inl hit ↦ rw hit refl | inr miss ↦ rw miss (find_first xs) ]
@@ -37,7 +36,7 @@ module _ {X : Type 0} (p : X → Bool) where
   first_of None = refl
   first_of (Some x) = refl
 
-  -- where one passes or none, it is found in any order
+  -- If at most one element satisfies `p`, a look-up finds it in any order.
   pub found_in_any_order : (xs ys : List X) (o : Option X) → IsPermutation xs ys → filter p ys ≡ option_to_list o → find p xs ≡ o
   found_in_any_order xs ys o moved is =
       let one = short o in
@@ -46,9 +45,9 @@ module _ {X : Type 0} (p : X → Bool) where
       let many : length (filter p ys) ≡ length (option_to_list o) = ap length is in
       find_moved p xs ys moved (omega arith) ∙ find_first ys ∙ ap (λ l. slice_get l 0) is ∙ first_of o
 
--- ---- rows with numbers
+-- ---- rows of a numbered list
 
--- one row of each element
+-- one row for each element
 module _ {X Y : Type 0} (g : ℕ × X → Y) (q : Y → Bool) (id : ℕ) (keyed : (k : ℕ) (x : X) → q (g (k, x)) ≡ (k == id)) where
   none_numbered : (xs : List X) (n : ℕ) → id < n → filter q (map g (enumerate_from n xs)) ≡ []
   none_numbered [] n low = refl
@@ -66,7 +65,7 @@ module _ {X Y : Type 0} (g : ℕ × X → Y) (q : Y → Bool) (id : ℕ) (keyed 
       let miss : q (g (n, x)) ≡ false = keyed n x ∙ below n id (omega arith) in
       rw miss (one_numbered xs (n + 1) k (omega arith))
 
--- a list of rows of each element
+-- a list of rows for each element
 module _ {X Y : Type 0} (g : ℕ × X → List Y) (q : Y → Bool) (id : ℕ) (others : (k : ℕ) (x : X) → (k == id) ≡ false → filter q (g (k, x)) ≡ []) where
   none_listed : (xs : List X) (n : ℕ) → id < n → filter q (flat_map g (enumerate_from n xs)) ≡ []
   none_listed [] n low = refl
@@ -75,7 +74,7 @@ module _ {X Y : Type 0} (g : ℕ × X → List Y) (q : Y → Bool) (id : ℕ) (o
       ∙ ap (λ ys. ys ++ filter q (flat_map g (enumerate_from (n + 1) xs))) (others n x (above n id low))
       ∙ none_listed xs (n + 1) (omega arith)
 
-  -- what passes is of the element with the number
+  -- The rows that satisfy `q` are rows of the element with the number `id`, if there is one.
   abbrev pub IsOfOne : Option X → List Y → Type 0
   IsOfOne None ys = ys ≡ []
   IsOfOne (Some x) ys = ys ≡ filter q (g (id, x))
@@ -93,7 +92,7 @@ module _ {X Y : Type 0} (g : ℕ × X → List Y) (q : Y → Bool) (id : ℕ) (o
       ∙ ap (λ ys. ys ++ filter q (flat_map g (enumerate_from (n + 1) xs))) (others n x (below n id (omega arith))) in
       rw skipped (one_listed xs (n + 1) k (omega arith))
 
--- rows of another element
+-- No row satisfies `q` if the row of no element does.
 pub none_pass : {X Y : Type 0} (g : X → Y) (q : Y → Bool) (xs : List X) → ((x : X) → q (g x) ≡ false) → filter q (map g xs) ≡ []
 none_pass g q [] fails = refl
 none_pass g q (x ∷ xs) fails = rw (fails x) (none_pass g q xs fails)
@@ -121,7 +120,7 @@ module _ (f : Facts) where
   unfolding stored_sessions
   session_rows k = one_numbered (stored_session f) (is_session_row (1 + k)) (1 + k) (λ n s. refl) f.sessions 1 k refl
 
-  -- the record at a place of the batch with an id
+  -- the row of the record at `place` of the batch `b` with the id `1 + k`, if there is one
   abbrev pub record_row : ℕ → ℕ → Batch → Option StoredRecord
   record_row k place b = option_map (λ r. stored_record f (1 + k, b) (place, r)) (slice_get (records_of f.products b) place)
 

@@ -1,4 +1,4 @@
--- The rows after a lot was added, and after a blank was taken out of use.
+-- The rows after a lot is added, and after a blank is discarded.
 use Rattle.std.proofs.Common.{◌≡◌, ℕ, ◌+◌, Bool, true, false, cond, List, [], ◌∷◌, ◌++◌, get_or, map, All, Some, inl, inr, refl, sym, ap, subst, ◌∙◌, arith, append_assoc, IsPermutation}
 use Rattle.std.specs.Prelude.{AllPairs, IsSome, bytes_eq}
 use Rattle.std.proofs.lemmas.Bool.{both_ways, cases_Bool, false_from_ne_true}
@@ -31,11 +31,11 @@ use Rattle.image_laws.proofs.Found.{found_alone, some_there, to_last}
 use Rattle.image_laws.proofs.Lists.{knows_later, pushed, unmoved}
 use Rattle.image_laws.proofs.Staying.{batches_stay, rows_stay, session_states_same}
 
--- a blank lies in one lot at most
+-- A blank is in at most one lot.
 lots_once : (f : Facts) → IsSound f → (blank : ℕ) → AllPairs (PassAlone (is_in blank)) f.lots
 lots_once f sound blank i j d before within = apart_once blank (get_or f.lots i d) (get_or f.lots j d) (sound.named.lots.apart i j d before within)
 
--- ---- a lot was added
+-- ---- adding a lot
 
 module _ (f : Facts) (l : Lot) (sound : IsSound f) (after : IsSound (with_lot f l)) where
   abbrev with_new : Facts
@@ -47,7 +47,7 @@ module _ (f : Facts) (l : Lot) (sound : IsSound f) (after : IsSound (with_lot f 
   discarded_there : All HasLot f.discarded
   discarded_there = All-right HasLot (map (λ (s : Session). s.blank) f.sessions) f.discarded sound.sessions.charged_lots
 
-  -- a blank of another lot is none of the new lot
+  -- A blank in another lot isn't in the new lot.
   not_new : (blank : ℕ) → HasLot blank → is_in blank l ≡ false
   not_new blank has =
       let m = some_there (lot_of f.lots blank) has in
@@ -63,7 +63,7 @@ module _ (f : Facts) (l : Lot) (sound : IsSound f) (after : IsSound (with_lot f 
   unfolding stored_lots
   lots_more = map-append (stored_lot f) f.lots (l ∷ []) ∙ ap (λ n. map (stored_lot f) f.lots ++ record { lot = l; discarded = n } ∷ []) none_discarded
 
-  -- a charged blank's lot keeps its name
+  -- The row of a charged blank names the same lot as before.
   blank_stays : (discarded : Bool) (blank : ℕ) (m : Lot) → lot_of f.lots blank ≡ Some m → stored_blank with_new discarded blank ≡ stored_blank f discarded blank
   blank_stays discarded blank m is =
       ap (λ o. record { serial = blank; lot = name_of o; discarded = discarded }) (find_kept (is_in blank) f.lots (l ∷ []) m is ∙ sym is)
@@ -92,13 +92,13 @@ rows_after_lot c l sound keeps =
     (unmoved _ _ (batches_stay f g sound more refl stands (session_states_same f g sound more refl stands refl) refl))
     (unmoved _ _ (blanks_stay f l sound keeps.sound))
 
--- ---- a blank was taken out of use
+-- ---- discarding a blank
 
 module _ (f : Facts) (blank : ℕ) (name : List ℕ) (sound : IsSound f) (of_lot : IsOfLot f blank name) (l : Lot) (named : lot_named f.lots name ≡ Some l) where
   abbrev with_out : Facts
   with_out = with_discard f blank
 
-  -- the lot of the blank, and no other, has the name
+  -- Only the lot of the blank has the name `name`.
   lots_named : (bytes_eq l.name name ≡ true) × All (λ (m : Lot). bytes_eq m.name name ≡ true → m ≡ l) f.lots
   lots_named = found_alone (λ (m : Lot). bytes_eq m.name name) f.lots l (named_once (λ (m : Lot). m.name) f.lots name sound.named.lots.once) named
 
@@ -117,7 +117,7 @@ module _ (f : Facts) (blank : ℕ) (name : List ℕ) (sound : IsSound f) (of_lot
   abbrev set : StoredLot → StoredLot
   set = lot_set name (discarded_in f l + 1)
 
-  -- a lot's row after it
+  -- the row of a lot after the discard
   lot_row : (m : Lot) → (bytes_eq m.name name ≡ true → m ≡ l) → (is_in blank m ≡ true → m ≡ of_lot.0) → stored_lot with_out m ≡ set (stored_lot f m)
   lot_row m by_name by_blank = elim (cases_Bool (bytes_eq m.name name)) [
     | inl hit ↦

@@ -1,4 +1,4 @@
--- The names of the batches and records of sound facts: each stands once.
+-- The names of the batches and records of sound facts, which are unique.
 use Rattle.std.proofs.Common.{◌≡◌, ℕ, ◌+◌, ◌≤◌, ◌&&◌, ◌||◌, Bool, true, false, cond, List, [], ◌∷◌, get_or, map, count_by, sum_by, find, slice_get, bytes_eq, Option, Some, None, inl, inr, refl, sym, ap, ◌∙◌, arith}
 use Rattle.std.specs.List.{enumerate_from, flat_map, list_any, position_or_len}
 use Rattle.std.proofs.lemmas.Bool.{and_from, and_parts, both_ways, cases_Bool, cond-true, cond-false, false_from_ne_true, false≢true, or_left, or_right}
@@ -22,7 +22,7 @@ one b = cond {A = ℕ} b 1 0
 
 -- ---- sums
 
--- the numbers matter nothing
+-- A sum that doesn't depend on the numbers is the sum over the list itself.
 sum_numbered : {X : Type 0} (h : X → ℕ) (n : ℕ) (xs : List X) → sum_by (λ (e : ℕ × X). h e.1) (enumerate_from n xs) ≡ sum_by h xs
 sum_numbered h n [] = refl
 sum_numbered h n (x ∷ xs) = omega (arith, sum_by-cons (λ e. h e.1) (n, x) (enumerate_from (n + 1) xs), sum_by-cons h x xs, sum_numbered h (n + 1) xs)
@@ -38,7 +38,7 @@ module _ {X : Type 0} (p : X → Bool) (h : X → ℕ) (others : (x : X) → p x
         | inr miss ↦ let here = others x miss in let rest = sum_none xs (omega (arith, none, count)) in omega (arith, sum, here, rest)
       ]
 
-  -- where one passes, the sum is its own
+  -- If only one element satisfies `p`, the sum is the value of this element.
   sum_of_one : (xs : List X) (x : X) → find p xs ≡ Some x → count_by p xs ≤ 1 → sum_by h xs ≡ h x
   sum_of_one [] x found few = absurd (none-some x found)
   sum_of_one (y ∷ xs) x found few =
@@ -59,7 +59,7 @@ module _ {X : Type 0} (p : X → Bool) (h : X → ℕ) (others : (x : X) → p x
 
 -- ---- the names of batches
 
--- the batch of a name stands in its place, and has the name
+-- The batch that a look-up of a name finds is at the index of this name.
 pub batch_there : (bs : List Batch) (n : List ℕ) (b : Batch) → batch_named bs n ≡ Some b → slice_get bs (position_or_len (λ (x : Batch). bytes_eq x.name n) bs) ≡ Some b
 batch_there bs n b is = sym (find_at (λ (x : Batch). bytes_eq x.name n) bs) ∙ is
 
@@ -100,7 +100,7 @@ module _ (f : Facts) (sound : IsSound f) where
       let few = at_most_one (λ m. bytes_eq m n) names (λ i j d before within. alone (get_or names i d) (get_or names j d) (once i j d before within)) in
       omega (arith, few, sum_by-map (λ m. one (bytes_eq m n)) (λ (b : Batch). b.name) f.batches)
 
--- ---- the names of a batch's records
+-- ---- the names of the records of a batch
 
 distinct_counted : (names : List (List ℕ)) → Distinct names → (r : List ℕ) → count_by (λ k. bytes_eq k r) names ≡ one (list_any (bytes_eq r) names)
 distinct_counted [] distinct r = refl
@@ -124,7 +124,7 @@ records_distinct : (products : List Product) (b : Batch) → Distinct (records_o
 unfolding records_of
 records_distinct products b = Distinct-first_appearances [] (map (λ (row : Row). row.rec) (rows_of products b)) tt
 
--- the batch of a record
+-- the batch that contains a record
 pub batch_of_record : (products : List Product) (o : Option Batch) (r : List ℕ) → list_any (bytes_eq r) (records_under products o) ≡ true
     → (b : Batch) × (o ≡ Some b) × (list_any (bytes_eq r) (records_of products b) ≡ true)
 batch_of_record products None r there = absurd (false≢true there)
@@ -158,7 +158,7 @@ module _ (f : Facts) (sound : IsSound f) (z : RecordName) where
   abbrev passes : Placed → Bool
   passes x = bytes_eq x.0.1.name z.batch && bytes_eq x.1.1 z.rec
 
-  -- how often the name stands in a batch
+  -- the number of times that batch `b` contains the record `z`
   abbrev in_batch : Batch → ℕ
   in_batch b = count_by (λ r. bytes_eq b.name z.batch && bytes_eq r z.rec) (records_of f.products b)
 

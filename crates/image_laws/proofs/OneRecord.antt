@@ -1,5 +1,5 @@
--- The rows of records and batches, where one record alone comes to stand otherwise, by its
--- sessions, remakes and withdrawal.
+-- The rows of records and batches after the sessions, remakes and withdrawal of only one record
+-- change.
 use Rattle.std.proofs.Common.{◌≡◌, ℕ, ◌==◌, ◌&&◌, Bool, true, false, List, [], ◌∷◌, ◌++◌, All, map, Option, Some, None, inl, inr, refl, sym, ap, ◌∙◌, subst, arith}
 use Rattle.std.specs.Prelude.{bytes_eq, count_by}
 use Rattle.std.specs.List.{enumerate_from, list_any}
@@ -30,7 +30,7 @@ use Rattle.image_laws.proofs.Places.{HasPlace, IsAround, Once, around, found_alo
 use Rattle.image_laws.proofs.Staying.{totals_are}
 use Rattle.image_laws.proofs.Totals.{passes_to}
 
--- ---- where a record stands
+-- ---- the place of a record
 
 pub turned : (m n : List ℕ) → bytes_eq m n ≡ false → bytes_eq n m ≡ false
 turned m n differ = bytes_eq_either n m ∙ differ
@@ -57,14 +57,14 @@ module _ (f : Facts) (b r : List ℕ) (sound : IsSound f) where
   pub batch_once : Once (has_name b) f.batches
   batch_once = once_of (has_name b) f.batches (named_once (λ (batch : Batch). batch.name) f.batches b sound.named.batches.once)
 
-  -- the batch's id is that of the one of its name
+  -- A batch has the id of the name `b` if and only if it has this name.
   pub ids : All (HasPlace (has_name b) (batch_id f.batches b)) (batches_by_id f)
   ids = placed (has_name b) 1 (batch_id f.batches b) f.batches batch_once refl
 
   pub named_alone : All (λ (e : ℕ × Batch). has_name b e.1 ≡ true → batch_named f.batches b ≡ Some e.1) (batches_by_id f)
   named_alone = All-numbered (λ (batch : Batch). has_name b batch ≡ true → batch_named f.batches b ≡ Some batch) 1 f.batches (found_alone (has_name b) f.batches batch_once)
 
-  -- and the record's place that of its name
+  -- A record has the place of the name `r` if and only if it has this name.
   pub places : All (HasPlace (bytes_eq r) (place_in (records_named f b) r)) (enumerate_from 0 (records_named f b))
   places = placed (bytes_eq r) 0 (place_in (records_named f b) r) (records_named f b) (under_once f.products (batch_named f.batches b) r) (omega arith)
 
@@ -97,7 +97,7 @@ module _ (f : Facts) (sessions : List Session) (remakes withdrawn : List RecordN
       abbrev set : StoredRecord → StoredRecord
       set = record_set id place state spoiled remade
 
-      -- a row of another batch, or at another place
+      -- a row of another batch, or with another place
       missed : (e : ℕ × Batch) (q : ℕ × List ℕ) → is_record e.1.name q.1 (named b r) ≡ false → ((e.0 == id) && (q.0 == place)) ≡ false
           → stored_record next_facts e q ≡ set (stored_record f e q)
       missed e q other miss =
@@ -182,8 +182,8 @@ module _ (f : Facts) (sessions : List Session) (remakes withdrawn : List RecordN
           (All-weaker (λ q. bytes_eq r q ≡ false) (λ q. record_state next_facts b q ≡ record_state f b q)
           (λ q other. (others b q (and_right (bytes_eq b b) (bytes_eq r q) other)).stands) names (All-from_list_any (bytes_eq r) names none))
 
-      -- the record passes from one state to the other, by the batch's sessions as they stand in
-      -- these
+      -- The counters of the batch after the record changes from the state `was` to the state `now`.
+      -- The states of the sessions are given.
       pub totals_pass : (states : List SessionState) → totals_by (record_states next_facts b) states ≡ more now (less was (totals_by (record_states f b) states))
       unfolding record_states
       totals_pass states =

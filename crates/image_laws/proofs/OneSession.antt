@@ -1,5 +1,5 @@
--- One session that changes: its row, how it stands among those of its batch and of its record, and
--- what stays.
+-- The effect of a change to one session: its row, the states of the sessions of its batch and
+-- record, and the rows that don't change.
 use Rattle.std.proofs.Common.{◌≡◌, ◌≢◌, ℕ, zero, suc, ◌+◌, ◌≤◌, ◌<◌, ◌==◌, ◌&&◌, Bool, true, false, cond, List, [], ◌∷◌, ◌++◌, length, map, Some, refl, sym, ap, ◌∙◌, arith}
 use Rattle.std.specs.Prelude.{bytes_eq, filter}
 use Rattle.std.specs.List.{enumerate_from}
@@ -21,7 +21,8 @@ use Rattle.step_laws.proofs.RecordStands.{record_same, states_around}
 use Rattle.table_rows.specs.Tables.{StoredBlank, StoredSession}
 use Rattle.image_laws.specs.Image.{stored_blank, stored_blanks, stored_session, stored_sessions}
 
--- the list around session s, whose number follows from what stands before it
+-- The list before and after session `s`, and the list with the changed session. The number of the
+-- session is 1 plus the number of sessions before it.
 pub split_numbered : (xs : List Session) (s : ℕ) (x : Session) (change : Session → Session) → session_numbered xs s ≡ Some x
     → (before : List Session) × (after : List Session) × (xs ≡ before ++ x ∷ after) × (at_session s change xs ≡ before ++ change x ∷ after) × (1 + length before ≡ s)
 split_numbered xs zero x change there = absurd (none-some x there)
@@ -33,11 +34,11 @@ split_numbered (y ∷ xs) (suc (suc i)) x change there =
     let rest = split_numbered xs (suc i) x change there in
     (y ∷ rest.0, rest.1, ap (λ zs. y ∷ zs) rest.2, ap (λ zs. y ∷ zs) rest.3, omega (arith, rest.4))
 
--- ---- among sessions with their numbers
+-- ---- sessions with their numbers
 
 module _ (row : ℕ × Session → StoredSession) (set : StoredSession → StoredSession) (s : ℕ)
     (misses : (k : ℕ) (z : Session) → (k == s) ≡ false → set (row (k, z)) ≡ row (k, z)) where
-  -- rows of other numbers stay
+  -- Rows with other numbers don't change.
   elsewhere : (n : ℕ) (xs : List Session) → ((k : ℕ) → n ≤ k → k < n + length xs → k ≢ s) → map set (map row (enumerate_from n xs)) ≡ map row (enumerate_from n xs)
   elsewhere n [] apart = refl
   elsewhere n (z ∷ zs) apart =
@@ -65,7 +66,7 @@ module _ (row : ℕ × Session → StoredSession) (set : StoredSession → Store
 
 -- ---- the change
 
--- states before and after, around that of the session
+-- `now` is `was` with the state of one session changed from `state_was` to `state_now`.
 pub record AreAround (was now : List SessionState) (state_was state_now : SessionState) : Type 0 where
   pub before : List SessionState
   pub after : List SessionState
@@ -85,7 +86,7 @@ module _ (f : Facts) (s : ℕ) (x : Session) (change : Session → Session) (the
       ap (λ xs. map (stored_session f) (enumerate_from 1 xs)) split.3 ∙ one_row (stored_session f) set s misses split.0 split.1 x (change x) split.4 hits
       ∙ sym (ap (λ xs. map set (map (stored_session f) (enumerate_from 1 xs))) split.2)
 
-  -- of another batch
+  -- the states of the sessions of another batch
   pub sessions_elsewhere : (c : List ℕ) → bytes_eq x.batch c ≡ false → session_states now_facts c ≡ session_states f c
   unfolding session_states session_state plan_for
   sessions_elsewhere c other =
@@ -98,7 +99,7 @@ module _ (f : Facts) (s : ℕ) (x : Session) (change : Session → Session) (the
       ∙ sym (ap (λ xs. map (session_state f) (filter of_batch xs)) split.2 ∙ map_filter-at of_batch (session_state f) split.0 split.1 x
       ∙ ap (λ ts. first ++ ts) (cond-false (of_batch x) (session_state f x ∷ rest) rest other))
 
-  -- of its own batch
+  -- the states of the sessions of the same batch
   pub sessions_around : AreAround (session_states f x.batch) (session_states now_facts x.batch) (session_state f x) (session_state f (change x))
   unfolding session_states session_state plan_for
   sessions_around =
@@ -116,7 +117,7 @@ module _ (f : Facts) (s : ℕ) (x : Session) (change : Session → Session) (the
             (cond-true (of_batch (change x)) (session_state f (change x) ∷ rest) rest (ap (λ d. bytes_eq d x.batch) batch ∙ bytes_eq-same x.batch));
       }
 
-  -- of its own record
+  -- the states of the sessions of the same record
   pub record_around : AreAround (states_of f x.batch x.rec) (states_of now_facts x.batch x.rec) (session_state f x) (session_state f (change x))
   record_around =
       let split = split_numbered f.sessions s x change there in
@@ -146,7 +147,7 @@ module _ (f : Facts) (s : ℕ) (x : Session) (change : Session → Session) (the
       ∙ sym (map-append blank split.0 (x ∷ split.1)))
       ∙ sym (ap (λ xs. map blank xs ++ discarded) split.2)
 
-  -- ---- where it stands as it stood
+  -- ---- a change that keeps the state of the session
 
   module _ (stands : session_state f (change x) ≡ session_state f x) where
     pub sessions_same : (c : List ℕ) → session_states now_facts c ≡ session_states f c

@@ -1,4 +1,4 @@
--- The rows after an opening.
+-- The rows after a session is opened.
 use Rattle.std.proofs.Common.{◌≡◌, ℕ, ◌+◌, Bool, true, false, List, [], ◌∷◌, ◌++◌, length, map, refl, sym, ap, subst, ◌∙◌, arith, append-nil, append_assoc, IsPermutation}
 use Rattle.std.specs.Prelude.{bytes_eq, count_by, filter, option_and_then, unwrap_or}
 use Rattle.std.specs.List.{enumerate_from, flat_map}

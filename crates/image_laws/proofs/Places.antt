@@ -1,4 +1,4 @@
--- The one of a list that passes a test: where it stands, and what it alone adds.
+-- The only element of a list that satisfies a predicate: its index, and the rows that it adds.
 use Rattle.std.proofs.Common.{◌≡◌, ℕ, suc, ◌+◌, ◌<◌, ◌==◌, ◌||◌, Bool, true, false, List, [], ◌∷◌, ◌++◌, All, map, Some, inl, inr, refl, sym, ap, ◌∙◌, subst, arith, IsPermutation}
 use Rattle.std.specs.Prelude.{AllPairs, find, ⊤}
 use Rattle.std.specs.List.{enumerate_from, flat_map, list_any, position_or_len}
@@ -11,10 +11,10 @@ use Rattle.std.proofs.lemmas.List.Sorted.{IsPermutation-append, IsPermutation-ap
 use Rattle.store_data.proofs.IsPlanLemmas.{All-from_list_any}
 use Rattle.image_laws.proofs.Lists.{unmoved}
 
--- ---- where it stands
+-- ---- its index
 
 module _ {X : Type 0} (p : X → Bool) where
-  -- at most one passes
+  -- At most one element satisfies `p`.
   abbrev pub Once : List X → Type 0
   Once [] = ⊤
   Once (x ∷ xs) = (p x ≡ true → list_any p xs ≡ false) × Once xs
@@ -36,7 +36,7 @@ module _ {X : Type 0} (p : X → Bool) where
       let differ : (n == m) ≡ false = grind (arith, nat_tests) in
       All-cons (HasPlace m) (n, x) (enumerate_from (n + 1) xs) (differ ∙ sym parts.0) (past (n + 1) m xs (omega arith) parts.1)
 
-  -- the number of one is this exactly where it passes
+  -- An element satisfies `p` if and only if its number is `m`.
   pub placed : (n m : ℕ) (xs : List X) → Once xs → m ≡ n + position_or_len p xs → All (HasPlace m) (enumerate_from n xs)
   placed n m [] once is = All-nil (HasPlace m)
   placed n m (x ∷ xs) once is = elim (cases_Bool (p x)) [
@@ -50,7 +50,7 @@ module _ {X : Type 0} (p : X → Bool) where
         All-cons (HasPlace m) (n, x) (enumerate_from (n + 1) xs) (differ ∙ sym miss) (placed (n + 1) m xs once.1 (omega arith))
   ]
 
-  -- one that passes is the one that is found
+  -- An element that satisfies `p` is the element that a look-up finds.
   pub found_alone : (xs : List X) → Once xs → All (λ x. p x ≡ true → find p xs ≡ Some x) xs
   found_alone [] once = All-nil (λ x. p x ≡ true → find p [] ≡ Some x)
   found_alone (x ∷ xs) once =
@@ -62,7 +62,7 @@ module _ {X : Type 0} (p : X → Bool) where
             (λ y found also. cond-false (p x) (Some x) (find p xs) miss ∙ found also) xs (found_alone xs once.1)
       ])
 
-  -- the list around the one that passes
+  -- the list before and after the element that satisfies `p`
   pub record IsAround (xs : List X) : Type 0 where
     pub before : List X
     pub one : X
@@ -89,7 +89,7 @@ module _ {X : Type 0} (p : X → Bool) where
         }
   ]
 
-  -- ---- with their numbers
+  -- ---- numbered elements
 
   abbrev pub numbered_passes : ℕ × X → Bool
   numbered_passes e = p e.1
@@ -98,12 +98,12 @@ module _ {X : Type 0} (p : X → Bool) where
   any_numbered n [] = refl
   any_numbered n (x ∷ xs) = ap (λ t. p x || t) (any_numbered (n + 1) xs)
 
--- at most one passes with its number
+-- At most one element of the numbered list satisfies `p`.
 pub once_numbered : {X : Type 0} (p : X → Bool) (n : ℕ) (xs : List X) → Once p xs → Once (λ (e : ℕ × X). p e.1) (enumerate_from n xs)
 once_numbered p n [] once = tt
 once_numbered p n (x ∷ xs) once = (λ hit. any_numbered p (n + 1) xs ∙ once.0 hit, once_numbered p (n + 1) xs once.1)
 
--- ---- what it alone adds
+-- ---- the row that it adds
 
 module _ {X Y : Type 0} (p : X → Bool) (h k : X → List Y) (y : Y) where
   abbrev pub StaysBut : X → Type 0

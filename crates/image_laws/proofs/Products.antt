@@ -1,4 +1,4 @@
--- The rows after a reply, and after a product was added.
+-- The rows after a reply is kept, and after a product is added.
 use Rattle.std.proofs.Common.{ℕ, List, refl}
 use Rattle.store_data.specs.declared.row.Product.{Product}
 use Rattle.job_facts.specs.declared.change.Change.TheVariants as change

@@ -1,4 +1,4 @@
--- The rows after a client's numbers were released.
+-- The rows after a release.
 use Rattle.std.proofs.Common.{◌≡◌, ◌&&◌, ℕ, Bool, true, false, cond, not, List, [], ◌∷◌, ◌++◌, Option, Some, None, inl, inr, refl, sym, ap, subst, ◌∙◌, arith, IsPermutation}
 use Rattle.std.specs.Prelude.{bytes_eq, filter, find, nat_le, nat_lt, option_map, unwrap_or}
 use Rattle.std.proofs.lemmas.Bool.{both_ways, cases_Bool, false_from_ne_true, lt-ltb}
@@ -24,7 +24,8 @@ module _ (client : List ℕ) (upto : ℕ) where
   abbrev other_marks : List Mark → List Mark
   other_marks marks = filter (λ (m : Mark). not (has_mark client m)) marks
 
-  -- the client's release mark is the new one, and each other client's is what it was
+  -- The release mark of the client is the new one, and the marks of all other clients are
+  -- unchanged.
   mark_after : (marks : List Mark) (n : List ℕ) → mark_of (with_mark marks client upto) n ≡ cond (bytes_eq client n) upto (mark_of marks n)
   mark_after [] n = elim (bytes_eq client n) as (λ b. upto_of (cond b (Some new) None) ≡ cond b upto 0) [ true ↦ refl | false ↦ refl ]
   mark_after (m ∷ marks) n =
@@ -49,7 +50,7 @@ module _ (client : List ℕ) (upto : ℕ) where
             ]
       ]
 
-  -- of what was above the marks, what is above the new ones is not released
+  -- A reply above the old marks is above the new marks if and only if it isn't released.
   stays_above : (marks : List Mark) (e : Entry) → is_above marks e ≡ true → is_above (with_mark marks client upto) e ≡ not (is_released client upto e)
   stays_above marks e was =
       ap (λ n. nat_lt n e.number) (mark_after marks e.client)

@@ -30,7 +30,7 @@ use Rattle.image_laws.proofs.Places.{AddsOne, StaysBut, any_numbered, once_numbe
 use Rattle.image_laws.proofs.Staying.{totals_are}
 use Rattle.image_laws.proofs.Touching.{blanks_stay, groupings_stay, is_place, lots_stay, place_of, remakes_stay, sessions_stay, words_stay}
 
--- ---- the batch and the record are there
+-- ---- the batch and the record exist
 
 batch_there : (products : List Product) (b r : List ℕ) (batches : List Batch) → list_any (bytes_eq r) (records_under products (batch_named batches b)) ≡ true
     → list_any (has_name b) batches ≡ true
@@ -43,7 +43,7 @@ batch_there products b r (x ∷ batches) there = elim (cases_Bool (has_name b x)
       ∙ batch_there products b r batches (sym (ap (λ o. list_any (bytes_eq r) (records_under products o)) skipped) ∙ there)
 ]
 
--- ---- the states that stay
+-- ---- states that don't change
 
 module _ (f : Facts) (remakes withdrawn : List RecordName) where
   abbrev changed_facts : Facts
@@ -56,7 +56,7 @@ module _ (f : Facts) (remakes withdrawn : List RecordName) where
   pub spoiled_stay : (b r : List ℕ) → count_by is_spoiled (states_of changed_facts b r) ≡ count_by is_spoiled (states_of f b r)
   spoiled_stay b r = ap (count_by is_spoiled) (same_states f f.discarded remakes withdrawn f.closed b r)
 
--- ---- one more remake
+-- ---- the row of the new remake
 
 module _ (f : Facts) (b r : List ℕ) (sound : IsSound f) (there : IsRecord f b r) where
   abbrev g : Facts
@@ -114,7 +114,7 @@ module _ (f : Facts) (b r : List ℕ) (sound : IsSound f) (there : IsRecord f b 
 
 -- ---- the changes
 
--- the counters, where no session changes
+-- the counters of the batch after a change that affects no session
 module _ (f : Facts) (remakes withdrawn : List RecordName) (b r : List ℕ) (sound : IsSound f) (there : IsRecord f b r) where
   abbrev after_facts : Facts
   after_facts = record f { remakes = remakes; withdrawn = withdrawn }

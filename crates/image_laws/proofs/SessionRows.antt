@@ -1,4 +1,4 @@
--- The words of a session that changes, and its own row.
+-- The status words and the row of a session that changes.
 use Rattle.std.proofs.Common.{◌≡◌, ℕ, ◌+◌, ◌==◌, true, List, [], ◌∷◌, ◌++◌, length, map, Some, refl, sym, ap, subst, ◌∙◌, arith, append_assoc, IsPermutation}
 use Rattle.std.specs.List.{enumerate_from, flat_map}
 use Rattle.std.proofs.lemmas.Bool.{cond-false, cond-true, eq-eqb}
@@ -15,9 +15,9 @@ use Rattle.table_rows.specs.Tables.{StoredSession, StoredWord, end_set, session_
 use Rattle.image_laws.specs.Image.{stored_session, stored_sessions, stored_words, words_in}
 use Rattle.image_laws.proofs.OneSession.{rows_changed, split_numbered}
 
--- ---- words
+-- ---- status words
 
--- the words of the other sessions matter nothing to those of one
+-- The rows in `word` change only by the words of the changed session.
 module _ (f : Facts) (s : ℕ) (x : Session) (change : Session → Session) (there : session_numbered f.sessions s ≡ Some x) where
   words_around : (before after : List Session) (z : Session) → 1 + length before ≡ s
       → flat_map words_in (enumerate_from 1 (before ++ z ∷ after)) ≡ flat_map words_in (enumerate_from 1 before) ++ (words_in (s, z) ++ flat_map words_in (enumerate_from (s + 1) after))
@@ -62,7 +62,7 @@ module _ (f : Facts) (s : ℕ) (x : Session) (change : Session → Session) (the
       append_assoc left own right ∙ sym (ap (λ xs. flat_map words_in (enumerate_from 1 xs)) split.2 ∙ words_around split.0 split.1 x split.4) in
       subst (λ ws. IsPermutation ws (word ∷ stored_words f)) (sym now) (subst (λ ws. IsPermutation ((left ++ own) ++ word ∷ right) (word ∷ ws)) was (IsPermutation-middle (left ++ own) word right))
 
--- ---- the session's row
+-- ---- the row of the session
 
 module _ (f : Facts) (s : ℕ) (x : Session) (there : session_numbered f.sessions s ≡ Some x) where
   number : (s == s) ≡ true
@@ -81,7 +81,7 @@ module _ (f : Facts) (s : ℕ) (x : Session) (there : session_numbered f.session
       rows_changed f s x (worded sw) there refl refl (session_set s state words cursor)
       (λ k z miss. cond-false (k == s) (record (stored_session f (k, z)) { state = state; words = words; cursor = cursor }) (stored_session f (k, z)) miss) hits
 
-  -- its words and its cursor stay
+  -- The end of a session doesn't change its words and its cursor.
   pub ended_set : session_state f (ended x) ≡ session.Spoiled → stored_sessions (with_end f s) ≡ map (end_set s) (stored_sessions f)
   unfolding session_cursor
   ended_set state_is =

@@ -1,4 +1,4 @@
--- What the rows of an image give back of sets: of lots, discarded blanks, closed batches, and
+-- The sets that the rows of an image determine: lots, discarded blanks, closed batches, and
 -- withdrawn and remade records.
 use Rattle.std.proofs.Common.{◌≡◌, ℕ, suc, ◌+◌, Bool, true, false, cond, List, [], ◌∷◌, ◌++◌, length, map, replicate, filter, slice_get, All, bytes_eq, Some, IsSome, inl, inr, refl, sym, ap, subst, ◌∙◌, arith, IsPermutation}
 use Rattle.std.specs.List.{enumerate_from, flat_map, list_any, range_with_len}
@@ -39,7 +39,7 @@ all_pass : {X Y : Type 0} (g : X → Y) (q : Y → Bool) → ((x : X) → q (g x
 all_pass g q passes [] = refl
 all_pass g q passes (x ∷ xs) = rw (passes x) (ap (λ ys. g x ∷ ys) (all_pass g q passes xs))
 
--- rows that pass by their names give these names
+-- The rows whose names satisfy `p` have exactly these names.
 module _ {X Y K : Type 0} (g : X → Y) (q : Y → Bool) (h : Y → K) (name : X → K) (p : K → Bool) where
   abbrev once_each : K → ℕ
   once_each k = cond (p k) 1 0
@@ -59,12 +59,12 @@ module _ {X Y K : Type 0} (g : X → Y) (q : Y → Bool) (h : Y → K) (name : X
         | inr miss ↦ ap (λ b. map h (cond b (g x ∷ kept) kept)) (here.0 ∙ miss) ∙ rest ∙ ap spread_by (sym miss)
       ]
 
--- what is made alike of each
+-- If every element gives the same value, the mapped list repeats this value.
 same_each : {X Y Z : Type 0} (h : Y → Z) (g : X → Y) (z : Z) → ((x : X) → h (g x) ≡ z) → (xs : List X) → map h (map g xs) ≡ replicate (length xs) z
 same_each h g z same [] = refl
 same_each h g z same (x ∷ xs) = ap (λ y. y ∷ map h (map g xs)) (same x) ∙ ap (λ ys. z ∷ ys) (same_each h g z same xs)
 
--- each stands at its number
+-- Each numbered element is at the index of its number.
 pub numbered_there : {X : Type 0} (n : ℕ) (xs : List X) → All (λ (e : ℕ × X). (k : ℕ) × (e.0 ≡ n + k) × (slice_get xs k ≡ Some e.1)) (enumerate_from n xs)
 numbered_there {X} n [] = let none : List X = [] in All-nil (λ (e : ℕ × X). (k : ℕ) × (e.0 ≡ n + k) × (slice_get none k ≡ Some e.1))
 numbered_there {X} n (x ∷ xs) =
@@ -72,7 +72,7 @@ numbered_there {X} n (x ∷ xs) =
     (All-weaker (λ (e : ℕ × X). (k : ℕ) × (e.0 ≡ n + 1 + k) × (slice_get xs k ≡ Some e.1)) (λ e. (k : ℕ) × (e.0 ≡ n + k) × (slice_get (x ∷ xs) k ≡ Some e.1))
     (λ e at. (suc at.0, omega (arith, at.1), at.2)) (enumerate_from (n + 1) xs) (numbered_there (n + 1) xs))
 
--- ---- how a withdrawn record stands
+-- ---- the state of a withdrawn record
 
 without_withdrawal : (good running more : Bool)
     → same_record_state rec.Withdrawn (cond good rec.Good (cond running rec.Running (cond false rec.Withdrawn (cond more rec.Failed rec.Waiting)))) ≡ false
@@ -90,9 +90,9 @@ withdrawn_stands states true remakes is =
     rw (good, running) refl
 withdrawn_stands states false remakes is = without_withdrawal (list_any is_good states) (list_any is_running states) _
 
--- ---- all records, by their places
+-- ---- all records with their batches and places
 
--- a record's rows by its batch's
+-- the rows of all records, from the records of each batch
 rows_by_place : (f : Facts) → stored_records f ≡ map (λ (x : Placed). stored_record f x.0 x.1) (all_records f)
 unfolding stored_records
 rows_by_place f =
@@ -132,7 +132,7 @@ module _ (f : Facts) where
       (λ e at. All-map (IsPlaced f) (with_record e) (placed_records f e) (placed_in e at.0 at.1 at.2))
       (batches_by_id f) (numbered_there 1 f.batches))
 
--- ---- what the rows give back
+-- ---- sets from rows
 
 module _ (c : Contents) (t : Tables) (sound : AreSound c) (same : HaveSameRows t (image c)) where
   abbrev f : Facts

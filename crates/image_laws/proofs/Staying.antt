@@ -1,4 +1,4 @@
--- Rows that stay, where batches, sessions and what is known of records stay.
+-- The rows that don't change if batches, sessions and the states of records don't change.
 use Rattle.std.proofs.Common.{◌≡◌, ℕ, Bool, List, All, map, Option, Some, None, refl, sym, ap, ◌∙◌, IsPermutation}
 use Rattle.std.specs.Prelude.{bytes_eq, filter, length, option_and_then, unwrap_or}
 use Rattle.std.specs.List.{enumerate_from, flat_map, list_any}
@@ -22,13 +22,13 @@ use Rattle.table_rows.specs.Tables.{HaveSameRows, StoredBatch, StoredBlank, Stor
 use Rattle.image_laws.specs.Image.{batch_by, batch_id, batches_by_id, groupings_in, image, place_in, placed_records, records_in, remakes_at, remakes_in, sessions_by_id, stored_batch, stored_batches, stored_blanks, stored_groupings, stored_lots, stored_record, stored_records, stored_remakes, stored_session, stored_sessions, stored_words, words_in}
 use Rattle.image_laws.proofs.Lists.{All-numbered, flat_map_same, unmoved}
 
--- ---- what an account is made of
+-- ---- the parts of the counters
 
 pub totals_are : (f : Facts) (b : List ℕ) → batch_totals f b ≡ totals_by (record_states f b) (session_states f b)
 unfolding batch_totals
 totals_are f b = refl
 
--- a session's row, where what it is made of is the same
+-- The row of a session is the same if all values from which it is built are the same.
 pub session_alike : (f g : Facts) (e : ℕ × Session) → batch_id g.batches e.1.batch ≡ batch_id f.batches e.1.batch → records_named g e.1.batch ≡ records_named f e.1.batch
     → session_state g e.1 ≡ session_state f e.1 → session_cursor g e.1 ≡ session_cursor f e.1 → stored_session g e ≡ stored_session f e
 session_alike f g e batch names state cursor = λ i. record {
@@ -43,7 +43,7 @@ session_alike f g e batch names state cursor = λ i. record {
   cursor = cursor i;
 }
 
--- ---- where sessions stay, and what is known stays known
+-- ---- if sessions don't change, and everything known is still known
 
 module _ (f g : Facts) (sound : IsSound f) (more : KnowsMore f g) where
   pub session_states_kept : g.sessions ≡ f.sessions → (n : List ℕ) → session_states g n ≡ session_states f n
@@ -61,7 +61,7 @@ module _ (f g : Facts) (sound : IsSound f) (more : KnowsMore f g) where
       ap (λ (o : Option Plan). unwrap_or (option_and_then (λ (plan : Plan). cursor_at plan (going (commands_of plan) s.words)) o) (select_cursor 0))
       (plan_kept f g more sound s.batch is.batch is.batch_is s.rec)
 
--- ---- where batches stay, and what is known of records
+-- ---- if batches and the states of records don't change
 
 pub record_kept : (f g : Facts) → ((b r : List ℕ) → StandsSame f g b r) → (e : ℕ × Batch) (r : ℕ × List ℕ) → stored_record g e r ≡ stored_record f e r
 record_kept f g stands e r =
@@ -73,7 +73,7 @@ record_kept f g stands e r =
 
 module _ (f g : Facts) (sound : IsSound f) (more : KnowsMore f g)
     (batches : g.batches ≡ f.batches) (stands : (b r : List ℕ) → StandsSame f g b r) where
-  -- ---- of one batch
+  -- ---- one batch
 
   product_same : (b : Batch) → IsBatch f.products b → product_named g.products b.product ≡ product_named f.products b.product
   product_same b is = product_kept f g more b.product is.product is.there ∙ sym is.there
@@ -101,7 +101,7 @@ module _ (f g : Facts) (sound : IsSound f) (more : KnowsMore f g)
       ap (map (record_state g n)) (named_same n)
       ∙ map_same (record_state g n) (record_state f n) (records_named f n) (λ k d within. (stands n _).stands)
 
-  -- by its batch's sessions
+  -- The states of the sessions of each batch don't change.
   abbrev SessionsStand : Type 0
   SessionsStand = (n : List ℕ) → session_states g n ≡ session_states f n
 
@@ -128,7 +128,7 @@ module _ (f g : Facts) (sound : IsSound f) (more : KnowsMore f g)
       ∙ map_same (stored_batch g) (stored_batch f) (batches_by_id f)
       (λ k d within. batch_same states closed _)
 
-  -- what is listed of each batch in turn
+  -- the rows of all batches, batch by batch
   of_batches_stay : {Y : Type 0} (rows : Facts → ℕ × Batch → List Y) → ((e : ℕ × Batch) → IsBatch f.products e.1 → rows g e ≡ rows f e)
       → flat_map (rows g) (batches_by_id g) ≡ flat_map (rows f) (batches_by_id f)
   of_batches_stay rows same =
@@ -170,7 +170,7 @@ module _ (f g : Facts) (sound : IsSound f) (more : KnowsMore f g)
   unfolding stored_words
   words_stay sessions = ap (λ xs. flat_map words_in (enumerate_from 1 xs)) sessions
 
-  -- all tables, where the sessions stay too: four may have other rows
+  -- all tables, if the sessions don't change either. The rows of four tables may change
   pub rows_stay : g.sessions ≡ f.sessions → (kept : List Entry) (marks : List Mark) {ps : List Product} {ls : List StoredLot} {bs : List StoredBatch} {blanks : List StoredBlank}
       → IsPermutation g.products ps → IsPermutation (stored_lots g) ls → IsPermutation (stored_batches g) bs → IsPermutation (stored_blanks g) blanks
       → HaveSameRows (image (record { facts = g; kept = kept; marks = marks }))

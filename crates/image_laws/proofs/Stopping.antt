@@ -1,4 +1,5 @@
--- How a record and its batch stand once its session runs no more, and what is known of them before.
+-- The rows of a record and its batch after a session of the record stops running, and the
+-- preconditions of changes to a session.
 use Rattle.std.proofs.Common.{◌≡◌, ℕ, ◌+◌, false, List, Some, sym, ap, subst, ◌∙◌, arith}
 use Rattle.std.specs.Prelude.{count_by}
 use Rattle.std.proofs.lemmas.Option.{same_Some}
@@ -24,9 +25,9 @@ use Rattle.image_laws.proofs.Staying.{totals_are}
 use Rattle.image_laws.proofs.Totals.{session_good, session_spoiled}
 use Rattle.image_laws.proofs.Touching.{is_place, place_of}
 
--- ---- how its record and its batch stand then
+-- ---- the record and its batch after the change
 
--- the session ran, and stands so now
+-- `change` is applied to session `s`, which is running. It keeps its batch and its record.
 module _ (f : Facts) (s : ℕ) (x : Session) (change : Session → Session) (there : session_numbered f.sessions s ≡ Some x)
     (batch : (change x).batch ≡ x.batch) (of_rec : (change x).rec ≡ x.rec) (runs : session_state f x ≡ session.Running) where
   abbrev then_facts : Facts
@@ -83,9 +84,9 @@ module _ (f : Facts) (s : ℕ) (x : Session) (change : Session → Session) (the
         ∙ ap one_spoiled (totals_pass f then_facts.sessions f.remakes f.withdrawn x.batch x.rec sound others recorded rec.Running rec.Failed was now (session_states f x.batch))
         ∙ ap (λ n. one_spoiled (more rec.Failed (less rec.Running n))) (sym (totals_are f x.batch))
 
--- ---- what a change on a session touches
+-- ---- the record that a change to a session affects
 
--- it is the session's record
+-- It is the record of this session.
 module _ (f : Facts) (s : ℕ) (x : Session) (there : session_numbered f.sessions s ≡ Some x) where
   pub other_records : (change : Change) → touches f change ≡ record_of_session f s → IsSound f → HoldsBefore f change
       → (c q : List ℕ) → is_record c q (named x.batch x.rec) ≡ false → StandsSame f (changed f change) c q

@@ -1,4 +1,4 @@
--- How the counters of a batch move, as one of its records or of its sessions changes.
+-- The counters of a batch after one of its records or sessions changes.
 use Rattle.std.proofs.Common.{◌≡◌, ℕ, ◌+◌, ◌-◌, Bool, true, false, cond, List, ◌∷◌, ◌++◌, length, refl, sym, ap, ◌∙◌, arith}
 use Rattle.std.specs.Prelude.{count_by}
 use Rattle.std.proofs.lemmas.List.{length-append}
@@ -13,7 +13,7 @@ use Rattle.job_facts.specs.States.{is_spoiled, same_record_state}
 use Rattle.job_facts.proofs.Lists.{count_by-at}
 use Rattle.table_rows.specs.After.{less, more, one_opened, one_spoiled}
 
--- ---- one among others
+-- ---- one element in a list
 
 module _ {X : Type 0} (before after : List X) (x : X) where
   more_by_one : length (before ++ x ∷ after) ≡ length (before ++ after) + 1
@@ -33,9 +33,9 @@ module _ {X : Type 0} (before after : List X) (x : X) where
         let none : cond {A = ℕ} (p x) 1 0 ≡ 0 = ap (λ t. cond {A = ℕ} t 1 0) miss in
         omega (arith, count_by-at p before after x, without, none)
 
--- ---- the records
+-- ---- records
 
--- the same counters
+-- Counters with the same values are equal.
 alike : (m n : BatchTotals) → m.records ≡ n.records → m.waiting ≡ n.waiting → m.running ≡ n.running → m.failed ≡ n.failed → m.withdrawn ≡ n.withdrawn
     → m.good ≡ n.good → m.sessions ≡ n.sessions → m.spoiled ≡ n.spoiled → m ≡ n
 alike m n records waiting running failed withdrawn good sessions spoiled =
@@ -49,7 +49,7 @@ alike m n records waiting running failed withdrawn good sessions spoiled =
     ∙ ap (λ k. record n { spoiled = k }) spoiled
 
 module _ (before after : List RecordState) (states : List SessionState) where
-  -- those of the others, and of one more in no state
+  -- the counters of the other records. Only the total includes the record that changes
   abbrev others : BatchTotals
   others = record (totals_by (before ++ after) states) { records = length (before ++ after) + 1 }
 
@@ -81,14 +81,14 @@ less_more rec.Failed n = ap (λ k. record n { failed = k }) (back n.failed)
 less_more rec.Withdrawn n = ap (λ k. record n { withdrawn = k }) (back n.withdrawn)
 less_more rec.Good n = ap (λ k. record n { good = k }) (back n.good)
 
--- a record passes from one state to another
+-- A record changes from the state `was` to the state `now`.
 pub passes_to : (before after : List RecordState) (was now : RecordState) (states : List SessionState)
     → totals_by (before ++ now ∷ after) states ≡ more now (less was (totals_by (before ++ was ∷ after) states))
 passes_to before after was now states =
     beside before after states now ∙ ap (more now) (sym (less_more was (others before after states)))
     ∙ ap (λ n. more now (less was n)) (sym (beside before after states was))
 
--- ---- the sessions
+-- ---- sessions
 
 module _ (records : List RecordState) (before after : List SessionState) where
   pub session_opened : totals_by records (before ++ session.Running ∷ after) ≡ one_opened (totals_by records (before ++ after))

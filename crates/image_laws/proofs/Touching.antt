@@ -1,4 +1,4 @@
--- What is known of a record that a change touches, and the rows that no such change moves.
+-- The place of a record that a change affects, and rows that no such change affects.
 use Rattle.std.proofs.Common.{◌≡◌, ℕ, List, refl, ap, ◌∙◌}
 use Rattle.std.specs.Prelude.{count_by}
 use Rattle.job_facts.specs.Accounts.{batch_totals}
@@ -8,7 +8,7 @@ use Rattle.table_rows.specs.declared.writing.RecordPlace.{RecordPlace}
 use Rattle.image_laws.specs.WritingOf.{IsPlaceOf}
 use Rattle.image_laws.specs.Image.{batch_id, place_in, stored_blanks, stored_groupings, stored_lots, stored_remakes, stored_sessions, stored_words}
 
--- ---- what is known of the record
+-- ---- the place of the record
 
 abbrev pub place_of : Facts → List ℕ → List ℕ → RecordPlace
 place_of f b r = record {
@@ -27,7 +27,7 @@ is_place f b r p is =
     ∙ ap (λ n. record (place_of f b r) { remakes = n; totals = p.totals }) is.remakes
     ∙ ap (λ n. record (place_of f b r) { totals = n }) is.totals
 
--- ---- rows that stay
+-- ---- rows that don't change
 
 module _ (f : Facts) (remakes withdrawn : List RecordName) where
   module _ (sessions : List Session) where
@@ -46,7 +46,7 @@ module _ (f : Facts) (remakes withdrawn : List RecordName) where
     unfolding stored_remakes
     remakes_stay same = ap (λ ns. stored_remakes (record f { sessions = sessions; remakes = ns; withdrawn = withdrawn })) same
 
-  -- where the sessions do
+  -- if the sessions don't change
   abbrev same_sessions : Facts
   same_sessions = record f { remakes = remakes; withdrawn = withdrawn }
 

@@ -1,4 +1,4 @@
--- The rows after a word.
+-- The rows after a status word is added.
 use Rattle.std.proofs.Common.{◌≡◌, ◌≢◌, ℕ, ◌+◌, false, List, ◌∷◌, map, refl, sym, ap, subst, ◌∙◌, IsPermutation}
 use Rattle.std.specs.Prelude.{bytes_eq, count_by, option_map}
 use Rattle.std.proofs.lemmas.Option.{same_Some}
@@ -87,7 +87,7 @@ module _ (f : Facts) (w : NewWord) (b r : List ℕ) (stands : SessionState) (kee
   remakes_then : stored_remakes worded_facts ≡ stored_remakes f
   remakes_then = remakes_stay f f.remakes f.withdrawn worded_facts.sessions refl
 
-  -- ---- of its record
+  -- ---- the record of the session
 
   pub own_placed : (p : RecordPlace) → IsPlaceOf f b r p → p ≡ place_of f own.batch own.rec
   own_placed p is =
@@ -110,11 +110,11 @@ module _ (f : Facts) (w : NewWord) (b r : List ℕ) (stands : SessionState) (kee
     abbrev at : RecordPlace
     at = place_of f own.batch own.rec
 
-    -- its record's row and its batch's, as they count after the word
+    -- the rows of the record and its batch, with the counts after the status word
     abbrev recounted : RecordState → Tables → Tables
     recounted state t = record_after at state (count_by is_spoiled (states_of worded_facts own.batch own.rec)) at.remakes (batch_totals worded_facts own.batch) t
 
-    -- they count so where a session stops
+    -- These counts are the ones that `stopped` writes if the session stops running.
     recounted_stop : (t : SessionState) → t ≢ session.Running → stands ≡ t → record_state worded_facts own.batch own.rec ≡ record_by t
         → (u : Tables) → recounted (record_by t) u ≡ stopped at t u
     recounted_stop session.Running over is now u = absurd (over refl)

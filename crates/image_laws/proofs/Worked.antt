@@ -1,5 +1,5 @@
--- A worked example, computed: a card was spoiled at its second word, its record was remade, and
--- these are the rows then. The rows of the batch file are given, since this is no matter of tables.
+-- A worked example of an image: the second status word spoiled a card, and its record was remade.
+-- The rows of the batch file are given, because reading it isn't part of the image.
 use Rattle.std.proofs.Common.{◌≡◌, ℕ, true, false, List, [], ◌∷◌, codes, refl}
 use Rattle.store_data.specs.declared.row.Product.{Product}
 use Rattle.store_data.specs.declared.row.Row.{Row}

@@ -1,4 +1,4 @@
--- What is written for a change, by the facts before it.
+-- The writing for a change, which depends on the facts before it.
 use Rattle.std.specs.Prelude.{◌≡◌, ℕ, List, count_by, Some}
 use Rattle.job_facts.specs.declared.change.Change.{Change}
 use Rattle.job_facts.specs.declared.change.Change.TheVariants as change
@@ -15,7 +15,7 @@ use Rattle.table_rows.specs.declared.writing.Writing.{Writing}
 use Rattle.table_rows.specs.declared.writing.Writing.TheVariants as writing
 use Rattle.image_laws.specs.Image.{batch_id, place_in}
 
--- a record of a batch stands there, and so
+-- Record `r` of batch `b` is at the place `p`, which has its counts and the counters of its batch.
 pub record IsPlaceOf (f : Facts) (b r : List ℕ) (p : RecordPlace) : Type 0 where
   pub batch : p.batch ≡ batch_id f.batches b
   pub place : p.place ≡ place_in (records_named f b) r
@@ -23,30 +23,30 @@ pub record IsPlaceOf (f : Facts) (b r : List ℕ) (p : RecordPlace) : Type 0 whe
   pub remakes : p.remakes ≡ remakes_of f b r
   pub totals : p.totals ≡ batch_totals f b
 
--- the record of session s does
+-- The record of session `s` is at the place `p`.
 abbrev pub IsPlaceOfSession : Facts → ℕ → RecordPlace → Type 0
 IsPlaceOfSession f s p = (x : Session) × (session_numbered f.sessions s ≡ Some x) × IsPlaceOf f x.batch x.rec p
 
--- so many blanks of the lot of this name are discarded
+-- The lot with the name `lot` has `n` discarded blanks.
 abbrev pub AreDiscardedOf : Facts → List ℕ → ℕ → Type 0
 AreDiscardedOf f lot n = (l : Lot) × (lot_named f.lots lot ≡ Some l) × (n ≡ discarded_in f l)
 
--- ---- what is written with the place of a record
+-- ---- writings with the place of a record
 
--- it is what this makes of the place of a record of a batch
+-- `w` is the writing that `by` makes of the place of record `r` of batch `b`.
 abbrev pub IsOfRecord : Facts → List ℕ → List ℕ → (RecordPlace → Writing) → Writing → Type 0
 IsOfRecord f b r by w = (p : RecordPlace) × IsPlaceOf f b r p × (w ≡ by p)
 
--- a word after which its session runs on needs no more than itself; one after which it does not,
--- its record
+-- `w` is the writing for the status word `word`. If the session is still running, only the status
+-- word is needed, and otherwise also the place of its record.
 abbrev pub IsOfWord : Facts → List ℕ → List ℕ → NewWord → SessionState → Writing → Type 0
 IsOfWord f b r word session.Running w = w ≡ writing.AddsWord word
 IsOfWord f b r word session.Good w = IsOfRecord f b r (writing.AddsLastWord word session.Good) w
 IsOfWord f b r word session.Spoiled w = IsOfRecord f b r (writing.AddsLastWord word session.Spoiled) w
 
--- ---- any change
+-- ---- all changes
 
--- it is what is written for the change
+-- `w` is the writing for the change.
 abbrev pub IsWritingOf : Facts → Change → Writing → Type 0
 IsWritingOf f change.Nothing w = w ≡ writing.Nothing
 IsWritingOf f (change.AddsProduct p) w = w ≡ writing.AddsProduct p

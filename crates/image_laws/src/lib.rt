@@ -1,5 +1,5 @@
-//! Contents as rows of tables: how changes move these rows, and that the rows decide the contents.
-//! No function does anything; who calls one has its law.
+//! Lemmas about contents as rows of tables: the effect of changes on the rows, and that rows
+//! determine contents.
 #![tactic(auto)]
 
 mod decided_contents;

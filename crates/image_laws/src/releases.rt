@@ -1,4 +1,4 @@
-//! The rows after a release. The function does nothing; who calls it has its law.
+//! A lemma about the rows after a release.
 ghost use Rattle.std.specs.Prelude.{ℕ};
 ghost use Rattle.job_facts.specs.Contents.{AreSound, Contents, Entry, IsOwedRelease, released};
 ghost use Rattle.image_laws.specs.Image.{image};
@@ -6,8 +6,8 @@ ghost use Rattle.table_rows.specs.declared.writing.Writing.TheVariants as writin
 ghost use Rattle.table_rows.specs.After.{rows_written};
 ghost use Rattle.table_rows.specs.Tables.{HaveSameRows};
 
-/// What is kept under the client's numbers up to this one is gone, with its old mark; its new mark
-/// and the reply are one row more in each of their tables.
+/// Lemma: a release removes the kept replies of its client up to `upto`, and its old release mark.
+/// It adds the new release mark and its own reply, one row in each table.
 pub fn rows_after_release()
     ensures { (c : Contents) (upto : ℕ) (entry : Entry) → AreSound c → IsOwedRelease upto entry c
         → HaveSameRows (image (released c upto entry))

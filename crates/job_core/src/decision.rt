@@ -1,7 +1,7 @@
-//! The decisions: what the plain machine answers to a request, and the one fact that it adds.
+//! The decisions: the reply to each request, and the change to the facts.
 //!
-//! Each reads what its request needs, in the order of the refusals, and then decides by what was
-//! read.
+//! A decision reads what its refusals depend on, in the order of the refusals, and then decides
+//! over plain values.
 mod commands;
 mod products;
 mod records;
@@ -18,13 +18,16 @@ use job_facts::{Change, JobStore, Refusal, Reply, Request, StoreFault};
 use std::alloc::Global;
 use store_data::Name;
 
-/// A reply, and the one fact that the request adds.
+/// A reply, and the change that the request makes to the facts.
 pub(crate) type Decision<'a> = (Reply, Change<'a>);
 
-/// What the plain machine answers to a client's request, and the one fact that it adds. The store
-/// is only read.
+/// Decides the request of `client` by the reference model: returns its reply and its change. Reads
+/// from the store, but doesn't write.
 ///
-/// `StoreFault` where the store has one, or where memory is refused.
+/// # Errors
+///
+/// - `Memory` if an allocation fails.
+/// - `Device` or `Full` if the store returns this fault.
 pub fn decide<'a, S: JobStore>(
     alloc: Global,
     store: &mut S,
@@ -58,7 +61,7 @@ pub fn decide<'a, S: JobStore>(
     }
 }
 
-// The refusal, which adds nothing.
+// Returns a refusal without a change.
 fn refused(refusal: Refusal) -> Decision<'static>
     ensures { result ≡ (Refused refusal, Nothing) }
 {

@@ -1,5 +1,5 @@
-//! The decisions of the plain job machine: what a request is answered, and the one fact that it
-//! adds.
+//! Decides requests by the reference model: returns the reply to a request and its change to the
+//! facts.
 #![tactic(auto)]
 
 mod decision;

@@ -1,5 +1,5 @@
--- Lists and options: lists around one place, look-ups, lists that grow at their end, and what is
--- mapped.
+-- Lists and options: lists split at one position, look-ups, lists with appended elements, and
+-- mapped options.
 use Rattle.std.proofs.Common.{◌≡◌, ℕ, zero, suc, ◌+◌, ◌<◌, ◌≤◌, Bool, true, false, cond, ◌||◌, ◌&&◌, List, [], ◌∷◌, ◌++◌, length, map, All, Option, Some, None, ◌⊎◌, inl, inr, ⊎_elim, refl, sym, ap, take, ◌∙◌, subst, arith}
 use Rattle.std.specs.Prelude.{AllPairs, bytes_eq, count_by, filter, find, option_map, slice_get}
 use Rattle.std.specs.List.{list_all, list_any}
@@ -15,7 +15,7 @@ use Rattle.std.proofs.lemmas.List.Sums.{sum_by-append, sum_by-cons}
 use Rattle.std.proofs.lemmas.Option.{none-some, same_Some}
 use Rattle.store_data.proofs.GroupLemmas.{bytes_eq-same, same-bytes_eq}
 
--- ---- around one place
+-- ---- a list split at one position
 
 module _ {X : Type 0} (P : X → Type 0) where
   pub All-left : (xs ys : List X) → All P (xs ++ ys) → All P xs
@@ -26,11 +26,11 @@ module _ {X : Type 0} (P : X → Type 0) where
   All-right [] ys all = all
   All-right (x ∷ xs) ys all = All-right xs ys (All-tail P x (xs ++ ys) all)
 
-  -- another at the place
+  -- another element at the position
   pub All-at : (xs ys : List X) (x y : X) → All P (xs ++ x ∷ ys) → P y → All P (xs ++ y ∷ ys)
   All-at xs ys x y all there = All-append P xs (y ∷ ys) (All-left xs (x ∷ ys) all) (All-cons P y ys there (All-tail P x ys (All-right xs (x ∷ ys) all)))
 
-  -- one more at the place
+  -- an additional element at the position
   pub All-between : (xs ys : List X) (y : X) → All P (xs ++ ys) → P y → All P (xs ++ y ∷ ys)
   All-between xs ys y all there = All-append P xs (y ∷ ys) (All-left xs ys all) (All-cons P y ys there (All-right xs ys all))
 
@@ -54,7 +54,7 @@ module _ {X : Type 0} (R : X → X → Type 0) where
 -- ---- look-ups
 
 module _ {X : Type 0} (p : X → Bool) where
-  -- what holds of each holds of the one that is found
+  -- If a property is true of all elements, it is true of the element that is found.
   pub find-All : (P : X → Type 0) (xs : List X) (x : X) → All P xs → find p xs ≡ Some x → P x
   find-All P [] x each e = absurd (none-some x e)
   find-All P (y ∷ xs) x each e = elim (cases_Bool (p y)) [
@@ -62,7 +62,7 @@ module _ {X : Type 0} (p : X → Bool) where
     | inr miss ↦ find-All P xs x (All-tail P y xs each) (sym (cond-false (p y) (Some y) (find p xs) miss) ∙ e)
   ]
 
-  -- where nothing is found each fails
+  -- If nothing is found, all elements fail the test.
   pub find-None : (xs : List X) → find p xs ≡ None → All (λ x. p x ≡ false) xs
   find-None [] e = All-nil (λ x. p x ≡ false)
   find-None (y ∷ xs) e = elim (cases_Bool (p y)) [
@@ -70,11 +70,11 @@ module _ {X : Type 0} (p : X → Bool) where
     | inr miss ↦ All-cons (λ x. p x ≡ false) y xs miss (find-None xs (sym (cond-false (p y) (Some y) (find p xs) miss) ∙ e))
   ]
 
-  -- what is found is found among more
+  -- An element that is found is also found after more elements are appended.
   pub find_kept : (xs ys : List X) (x : X) → find p xs ≡ Some x → find p (xs ++ ys) ≡ Some x
   find_kept xs ys x e = find-append p xs ys ∙ ap (λ o. option_or o (find p ys)) e
 
-  -- ---- counts and tests around one place
+  -- ---- counts and tests in a list split at one position
 
   pub count_by-at : (xs ys : List X) (x : X) → count_by p (xs ++ x ∷ ys) ≡ count_by p xs + (cond (p x) 1 0 + count_by p ys)
   count_by-at xs ys x = sum_by-append (λ z. cond (p z) 1 0) xs (x ∷ ys) ∙ ap (λ n. count_by p xs + n) (sum_by-cons (λ z. cond (p z) 1 0) x ys)
@@ -103,7 +103,7 @@ module _ {X : Type 0} (p : X → Bool) where
   list_any-there [] ys x hit = ap (λ b. b || list_any p ys) hit
   list_any-there (z ∷ xs) ys x hit = grind (arith, nat_tests, list_any-there xs ys x hit)
 
-  -- what a map and a filter keep around the place
+  -- the results of a map and a filter in a list split at one position
   pub map_filter-at : {Y : Type 0} (g : X → Y) (xs ys : List X) (x : X)
       → map g (filter p (xs ++ x ∷ ys)) ≡ map g (filter p xs) ++ cond (p x) (g x ∷ map g (filter p ys)) (map g (filter p ys))
   map_filter-at g xs ys x =
@@ -120,7 +120,7 @@ slice_get-append_left [] ys k within = absurd (omega arith)
 slice_get-append_left (x ∷ xs) ys zero within = refl
 slice_get-append_left (x ∷ xs) ys (suc k) within = slice_get-append_left xs ys k (omega arith)
 
--- what is found passes, and is there
+-- A name that is found passes the test and is in the list.
 pub found_among : (q : List ℕ → Bool) (names : List (List ℕ)) (n : List ℕ) → find q names ≡ Some n → (q n ≡ true) × (list_any (bytes_eq n) names ≡ true)
 found_among q [] n found = absurd (none-some n found)
 found_among q (m ∷ names) n found = elim (cases_Bool (q m)) [
@@ -132,7 +132,7 @@ found_among q (m ∷ names) n found = elim (cases_Bool (q m)) [
       (rest.0, or_right (bytes_eq n m) (list_any (bytes_eq n) names) rest.1)
 ]
 
--- where all pass, so does one that is there
+-- If all names pass the test, a name in the list passes it.
 pub passes_among : (q : List ℕ → Bool) (names : List (List ℕ)) (n : List ℕ) → list_all q names ≡ true → list_any (bytes_eq n) names ≡ true → q n ≡ true
 passes_among q [] n all there = absurd (false≢true there)
 passes_among q (m ∷ names) n all there =
@@ -142,7 +142,7 @@ passes_among q (m ∷ names) n all there =
       | inr later ↦ passes_among q names n parts.1 later
     ]
 
--- a new name beside names that stand once
+-- a new name after names that are all different
 pub named_once_push : {X : Type 0} (key : X → List ℕ) (xs : List X) (x : X) → AllPairs (λ m n. bytes_eq m n ≡ false) (map key xs)
     → find (λ y. bytes_eq (key y) (key x)) xs ≡ None → AllPairs (λ m n. bytes_eq m n ≡ false) (map key (xs ++ x ∷ []))
 named_once_push key xs x once new =
@@ -150,7 +150,7 @@ named_once_push key xs x once new =
     subst (AllPairs (λ m n. bytes_eq m n ≡ false)) (sym (map-append key xs (x ∷ [])))
     (all_pairs_push (λ m n. bytes_eq m n ≡ false) (map key xs) (key x) once others)
 
--- ---- functions that are the same at each element
+-- ---- functions that are equal for each element
 
 pub map_same : {X Y : Type 0} (f g : X → Y) (xs : List X) → All (λ x. f x ≡ g x) xs → map f xs ≡ map g xs
 map_same f g [] same = refl
@@ -174,9 +174,9 @@ count_by_same p q (x ∷ xs) same =
     sum_by-cons (λ y. cond (p y) 1 0) x xs ∙ ap (λ b. cond b 1 0 + count_by p xs) head ∙ ap (λ n. cond (q x) 1 0 + n) tail
     ∙ sym (sum_by-cons (λ y. cond (q y) 1 0) x xs)
 
--- ---- what is mapped in an option
+-- ---- mapped options
 
--- what is mapped was there
+-- A mapped value has an original value.
 pub mapped : {X Y : Type 0} (h : X → Y) (o : Option X) (y : Y) → option_map h o ≡ Some y → (x : X) × (o ≡ Some x) × (h x ≡ y)
 mapped h None y e = absurd (none-some y e)
 mapped h (Some x) y e = (x, refl, same_Some (h x) y e)
@@ -185,7 +185,7 @@ pub unmapped : {X Y : Type 0} (h : X → Y) (o : Option X) → option_map h o �
 unmapped h None e = refl
 unmapped h (Some x) e = absurd (none-some (h x) (sym e))
 
--- ---- places of a list that grows at its end
+-- ---- positions in a list with appended elements
 
 slice_get_push : {X : Type 0} (xs : List X) (x y : X) (i : ℕ) → slice_get (xs ++ x ∷ []) i ≡ Some y → ((i < length xs) × (slice_get xs i ≡ Some y)) ⊎ ((i ≡ length xs) × (x ≡ y))
 slice_get_push [] x y zero is = inr (refl, same_Some x y is)
@@ -194,7 +194,7 @@ slice_get_push (z ∷ xs) x y zero is = inl (omega arith, is)
 slice_get_push {X = X} (z ∷ xs) x y (suc i) is =
     ⊎_elim (λ (p : (i < length xs) × (slice_get xs i ≡ Some y)). inl (omega (arith, p.0), p.1)) (λ (p : (i ≡ length xs) × (x ≡ y)). inr (ap suc p.0, p.1)) (slice_get_push xs x y i is)
 
--- what holds of each by those before it, after one more
+-- A property of each element and the elements before it, after one more element is appended.
 pub each_more : {X : Type 0} (P : List X → X → Type 0) (xs : List X) (x : X)
     → ((i : ℕ) (y : X) → slice_get xs i ≡ Some y → P (take i xs) y) → P xs x
     → (i : ℕ) (y : X) → slice_get (xs ++ x ∷ []) i ≡ Some y → P (take i (xs ++ x ∷ [])) y

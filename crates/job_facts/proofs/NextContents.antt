@@ -1,5 +1,4 @@
--- The contents that a store begins with, and that a commit or a release makes of sound ones, are
--- sound.
+-- The first contents of a store are sound. The contents after a commit or a release are also sound.
 use Rattle.std.proofs.Common.{◌≡◌, ℕ, Bool, true, false, List, [], ◌∷◌, ◌++◌, All, not, refl, sym, ◌∙◌, arith}
 use Rattle.std.specs.Prelude.{AllPairs, IsTrue, bytes_eq, filter}
 use Rattle.std.proofs.lemmas.Bool.{lt-ltb, not-true}
@@ -44,7 +43,7 @@ AreSame-refl c = record {
   marks = IsPermutation-refl c.marks;
 }
 
--- what is the same as both is the same
+-- If `b` is the same as `c` and the same as `d`, then `c` is the same as `d`.
 pub between : (b c d : Contents) → AreSame b c → AreSame b d → AreSame c d
 between b c d one two = record {
   facts = record {
@@ -65,7 +64,7 @@ pub AreSame-trans : (b c d : Contents) → AreSame b c → AreSame c d → AreSa
 AreSame-trans b c d one two = between c b d (between b c b one (AreSame-refl b)) two
 
 module _ (c : Contents) (entry : Entry) (sound : AreSound c) where
-  -- the kept replies with one under a new number
+  -- the kept replies after adding one under a new number
   more_kept : IsNewEntry entry c → All IsEntry (c.kept ++ entry ∷ [])
   more_kept new = All-push IsEntry c.kept entry sound.kept new.ranged
 

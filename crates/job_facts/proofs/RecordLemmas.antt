@@ -1,5 +1,5 @@
--- How a record stands by the states of its sessions, and what one more or another state makes of
--- it.
+-- The state of a record from the states of its sessions, and the effect of a new session or a new
+-- state.
 use Rattle.std.proofs.Common.{◌≡◌, ℕ, ◌+◌, ◌≤◌, Bool, true, false, cond, ltb, List, [], ◌∷◌, ◌++◌, refl, arith}
 use Rattle.std.specs.Prelude.{count_by}
 use Rattle.std.specs.List.{list_any}
@@ -14,19 +14,19 @@ use Rattle.job_facts.specs.Sound.{IsSoundRecord, has_card}
 use Rattle.job_facts.specs.States.{is_finished, is_good, is_running, is_spoiled, state_by}
 use Rattle.job_facts.proofs.Lists.{count_by-at, count_by_any, count_by_none, list_any-there}
 
--- a state has a card or is spoiled
+-- A session is good or running, or it is spoiled.
 card_or_spoiled : (t : SessionState) → cond (has_card t) 1 0 + cond (is_spoiled t) 1 0 ≡ 1
 card_or_spoiled session.Good = refl
 card_or_spoiled session.Running = refl
 card_or_spoiled session.Spoiled = refl
 
--- a good one has a card
+-- A good session is counted as good or running.
 good-le-card : (t : SessionState) → cond (is_good t) 1 0 ≤ cond (has_card t) 1 0
 good-le-card session.Good = omega arith
 good-le-card session.Running = omega arith
 good-le-card session.Spoiled = omega arith
 
--- by the tests of a record's state, where it failed or waits
+-- the tests in the state of a record that is failed or waiting
 open_tests : (good running withdrawn more failed : Bool)
     → cond good rec.Good (cond running rec.Running (cond withdrawn rec.Withdrawn (cond more rec.Failed rec.Waiting))) ≡ cond failed rec.Failed rec.Waiting
     → (good ≡ false) × (running ≡ false) × (withdrawn ≡ false) × (more ≡ failed)
@@ -41,7 +41,7 @@ open_tests false false false false false e = (refl, refl, refl, refl)
 open_tests false false false true false e = absurd (cc)
 open_tests false false false false true e = absurd (cc)
 
--- what a record says that failed or waits
+-- the sessions, withdrawal and remakes of a record that is failed or waiting
 pub open_parts : (states : List SessionState) (withdrawn : Bool) (remakes : ℕ) (failed : Bool)
     → state_by states withdrawn remakes ≡ cond failed rec.Failed rec.Waiting
     → (list_any has_card states ≡ false) × (withdrawn ≡ false) × (ltb remakes (count_by is_spoiled states) ≡ failed)
@@ -49,7 +49,7 @@ open_parts states withdrawn remakes failed stands =
     let parts = open_tests (list_any is_good states) (list_any is_running states) withdrawn (ltb remakes (count_by is_spoiled states)) failed stands in
     (list_any_none has_card states (λ k d within. or_from _ _ (All-from_list_any is_good states parts.0 k d within) (All-from_list_any is_running states parts.1 k d within)), parts.2, parts.3)
 
--- the running one of a record may become any
+-- The running session of a record may change to any state.
 pub record_kept : (before after : List SessionState) (t : SessionState) (withdrawn : Bool) (remakes : ℕ)
     → IsSoundRecord (before ++ session.Running ∷ after) withdrawn remakes → IsSoundRecord (before ++ t ∷ after) withdrawn remakes
 record_kept before after t withdrawn remakes is =
@@ -69,7 +69,7 @@ record_kept before after t withdrawn remakes is =
       withdrawn_none = λ gone. absurd (both_ways (list_any has_card (before ++ session.Running ∷ after)) (is.withdrawn_none gone) card_there);
     }
 
--- a waiting record may get one more
+-- A waiting record may get a new session.
 pub record_opened : (states : List SessionState) (t : SessionState) (withdrawn : Bool) (remakes : ℕ)
     → IsSoundRecord states withdrawn remakes → state_by states withdrawn remakes ≡ rec.Waiting → IsSoundRecord (states ++ t ∷ []) withdrawn remakes
 record_opened states t withdrawn remakes is waits =
@@ -89,7 +89,7 @@ record_opened states t withdrawn remakes is waits =
       withdrawn_none = λ gone. absurd (both_ways withdrawn parts.1 gone);
     }
 
--- a record with a running session isn't finished
+-- A record with a running session isn't finished.
 pub running_unfinished : (before after : List SessionState) (withdrawn : Bool) (remakes : ℕ)
     → IsSoundRecord (before ++ session.Running ∷ after) withdrawn remakes → is_finished (state_by (before ++ session.Running ∷ after) withdrawn remakes) ≡ false
 running_unfinished before after withdrawn remakes is =

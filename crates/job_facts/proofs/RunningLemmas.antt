@@ -1,4 +1,5 @@
--- A running session, by its record's plan: its next command, and what a word makes of it.
+-- A running session, from the plan of its record: its next command, and the effect of a status
+-- word.
 use Rattle.std.proofs.Common.{◌≡◌, ◌≤◌, ◌<◌, ◌^◌, ℕ, ◌+◌, ◌-◌, Bool, true, false, not, eqb, List, [], ◌∷◌, ◌++◌, length, Option, Some, None, refl, sym, ap, ◌∙◌, subst, inl, inr, arith, length-append, All}
 use Rattle.std.specs.Prelude.{IfSome, if◌then◌else◌, option_and_then, option_map, slice_get, unwrap_or}
 use Rattle.std.proofs.lemmas.Bool.{cases_lt, cond-true, cond-false, eqb-false, eq-eqb, ne_eqb}
@@ -25,7 +26,7 @@ use Rattle.job_facts.proofs.Lists.{All-there, found_among, item_there}
 use Rattle.job_facts.proofs.SessionLemmas.{session_split}
 use Rattle.job_facts.proofs.SoundSessions.{running_parts, sound_word, waiting_is, word_after}
 
--- a command of the sequence, as its bytes
+-- the bytes of a command of the sequence
 bytes_of : (o : Option Command) (p : Option (List ℕ)) → p ≡ option_map (λ (c : Command). c.bytes) o → unwrap_or p [] ≡ command_bytes o
 bytes_of None p e = ap (λ q. unwrap_or q []) e
 bytes_of (Some c) p e = ap (λ q. unwrap_or q []) e
@@ -39,7 +40,7 @@ pub command_under : (f : Facts) (b r : List ℕ) (plan : Plan) (n : ℕ) (p : Op
     → p ≡ slice_get (sequence plan) n → command_at f b r n ≡ unwrap_or p []
 command_under f b r plan n p there e = ap (λ o. command_bytes (slice_get (commands_under o) n)) there ∙ sym (command_of_sequence plan n p e)
 
--- the cursor of a session whose words all go
+-- the cursor of a session in which all status words let it continue
 cursor_going : (f : Facts) (x : Session) (plan : Plan) (n : ℕ) (c : Cursor) → plan_for f x.batch x.rec ≡ Some plan
     → going (commands_of plan) x.words ≡ n → cursor_at plan n ≡ Some c → session_cursor f x ≡ c
 unfolding session_cursor
@@ -73,7 +74,7 @@ runs_there f s x sound there runs =
       },
     )
 
--- ---- one word more
+-- ---- a new status word
 
 abbrev pub word_at : ℕ → ℕ → ℕ → Cursor → NewWord
 word_at s k sw c = record { session = s; index = k; sw = sw; cursor = c }
@@ -127,7 +128,7 @@ module _ (f : Facts) (s sw : ℕ) (x : Session) (plan : Plan) (b r : List ℕ) (
     keeps = record { before = (x, is.there, is.runs, refl, of_batch, of_record); sound = sound_word f s sw x sound is.there is.runs small; after = (session_row g y, row_after, is_state, is_cursor) };
   }
 
-  -- a word that does not go
+  -- a status word that spoils the session
   pub spoiled_word : (c : Cursor) → goes_at (commands_of plan) k sw ≡ false → c ≡ session_cursor f x
       → Makes f (take_word f s k sw x) (reply.Spoiled s) (change.AddsWord (word_at s k sw c) b r session.Spoiled)
   spoiled_word c stops same =
@@ -145,7 +146,7 @@ module _ (f : Facts) (s sw : ℕ) (x : Session) (plan : Plan) (b r : List ℕ) (
     on : going (commands_of plan) y.words ≡ k + 1
     on = cond-false (last_stops (commands_of plan) y.words) (length y.words - 1) (length y.words) went_on ∙ more_words
 
-    -- the last word
+    -- the last status word
     pub good_word : None ≡ slice_get (sequence plan) (k + 1) → Makes f (take_word f s k sw x) (reply.Good s) (change.AddsWord (word_at s k sw next) b r session.Good)
     good_word none =
         let all : k + 1 ≡ length (commands_of plan) = elim (cases_lt (k + 1) (length (commands_of plan))) [
@@ -158,7 +159,7 @@ module _ (f : Facts) (s sw : ℕ) (x : Session) (plan : Plan) (b r : List ℕ) (
         (state_after ∙ (rw (not_ended, went_on, more_words, full) refl))
         (cursor_going g y plan (k + 1) next plan_kept on at)
 
-    -- a word before the last
+    -- a status word before the last
     pub next_word : (command : List ℕ) → Some command ≡ slice_get (sequence plan) (k + 1)
         → Makes f (take_word f s k sw x) (reply.Next command (k + 1) s) (change.AddsWord (word_at s k sw next) b r session.Running)
     next_word command more =
@@ -170,26 +171,26 @@ module _ (f : Facts) (s sw : ℕ) (x : Session) (plan : Plan) (b r : List ℕ) (
         (state_after ∙ (rw (not_ended, went_on, more_words, differ) refl))
         (cursor_going g y plan (k + 1) next plan_kept on at)
 
--- ---- for the functions that hand out
+-- ---- for the functions that send commands
 
--- the first waiting record is one of its batch
+-- The first waiting record belongs to its batch.
 pub waiting_there : (f : Facts) (b r : List ℕ) → first_waiting f b ≡ Some r → IsRecord f b r
 unfolding first_waiting
 waiting_there f b r e = (found_among (λ q. is_waiting (record_state f b q)) (records_named f b) r e).1
 
--- and waits
+-- The first waiting record is waiting.
 pub waiting_state : (f : Facts) (b r : List ℕ) → first_waiting f b ≡ Some r → record_state_of f b r ≡ Some rec.Waiting
 unfolding first_waiting record_state_of
 waiting_state f b r e =
     let among = found_among (λ q. is_waiting (record_state f b q)) (records_named f b) r e in
     rw (among.1) (ap (λ state. Some state) (waiting_is (record_state f b r) among.0))
 
--- a cursor after a word that goes stands at the next command
+-- After a status word that lets the session continue, the cursor is at the next command.
 pub went_next : (plan : Plan) (n sw : ℕ) (next : Option Cursor) → Went plan n sw next → IfSome next (λ (c : Cursor). cursor_at plan (n + 1) ≡ Some c)
 went_next plan n sw None went = tt
 went_next plan n sw (Some c) went = went.1
 
--- the word stops the session where its class says so
+-- A status word of the class `Stop` doesn't let the session continue.
 pub class_stops : (b : Bool) → (if b then status.Go else status.Stop) ≡ status.Stop → b ≡ false
 class_stops true e = absurd (cc)
 class_stops false e = refl

@@ -37,7 +37,7 @@ has_serial first (suc n) q low high = elim (cases_Bool (q == first)) [
   | inr other ↦ or_right (q == first) (has (serials (first + 1) n) q) (has_serial (first + 1) n q (grind (arith, nat_tests)) (omega arith))
 ]
 
--- a blank of the first lot, and one of a later lot, are among the serials of all
+-- A blank of the first lot or of a later lot is one of all serials.
 pub has_first : (q : ℕ) (l : Lot) (lots : List Lot) → is_in q l ≡ true → has (flat_map serials_of (l ∷ lots)) q ≡ true
 has_first q l lots inside =
     ap (λ xs. has xs q) (flat_map-cons serials_of l lots) ∙ list_any-append (λ x. q == x) (serials_of l) (flat_map serials_of lots)

@@ -1,4 +1,4 @@
--- The facts stay sound where a fact is added that is no session's.
+-- Sound facts are sound after a change that isn't about sessions.
 use Rattle.std.proofs.Common.{◌≡◌, ◌≢◌, ℕ, ◌+◌, ◌^◌, ◌<◌, ◌≤◌, ltb, eqb, Bool, true, false, cond, ◌||◌, ◌&&◌, List, [], ◌∷◌, ◌++◌, length, map, All, Option, Some, None, Ok, refl, sym, ap, ◌∙◌, subst, arith, inl, inr, append_assoc}
 use Rattle.std.specs.Prelude.{AllPairs, IsSome, IsTrue, bytes_eq, count_by, filter, is_some, option_and_then, option_map}
 use Rattle.std.specs.List.{list_all, list_any}
@@ -33,32 +33,32 @@ IsSome-Some : {T : Type 0} (o : Option T) (x : T) → o ≡ Some x → IsSome o
 IsSome-Some o x e = ap is_some e
 
 module _ {T : Type 0} where
-  -- what is there
+  -- the value of an option that isn't `None`
   there_of : (o : Option T) → IsSome o → (x : T) × (o ≡ Some x)
   there_of None some = absurd (false≢true some)
   there_of (Some x) some = (x, refl)
 
-  -- what is there stays there
+  -- An option that isn't `None` is still not `None`.
   IsSome_kept : (o u : Option T) → ((x : T) → o ≡ Some x → u ≡ Some x) → IsSome o → IsSome u
   IsSome_kept o u kept some = let there = there_of o some in IsSome-Some u there.0 (kept there.0 there.1)
 
--- a batch with a record is there
+-- A batch with a record exists.
 batch_there : (products : List Product) (o : Option Batch) (r : List ℕ) → IsTrue (list_any (bytes_eq r) (records_under products o)) → IsSome o
 batch_there products None r is = is
 batch_there products (Some b) r is = refl
 
--- ---- facts with as much under the same names
+-- ---- facts that know as much under the same names
 
 pub record Grows (f g : Facts) : Type 0 where
   pub products : (n : List ℕ) (p : Product) → product_named f.products n ≡ Some p → product_named g.products n ≡ Some p
   pub lots : (blank : ℕ) (l : Lot) → lot_of f.lots blank ≡ Some l → lot_of g.lots blank ≡ Some l
   pub batches : (n : List ℕ) (b : Batch) → batch_named f.batches n ≡ Some b → batch_named g.batches n ≡ Some b
 
--- it is for this record
+-- The session is for record `r` of batch `b`.
 abbrev pub is_for : List ℕ → List ℕ → Session → Bool
 is_for b r s = bytes_eq s.batch b && bytes_eq s.rec r
 
--- the states of a record, were these the sessions
+-- the states of a record's sessions, if `sessions` were all sessions
 abbrev pub states_among : Facts → List Session → List ℕ → List ℕ → List SessionState
 states_among f sessions b r = map (session_state f) (filter (is_for b r) sessions)
 
@@ -66,16 +66,16 @@ pub states_are : (f : Facts) (b r : List ℕ) → states_of f b r ≡ states_amo
 unfolding states_of
 states_are f b r = refl
 
--- a record among the sessions that are there
+-- A record is sound with respect to the sessions of the facts.
 records_among : (f : Facts) (b r : List ℕ) → AreStates f → IsSoundRecord (states_among f f.sessions b r) (is_withdrawn f b r) (remakes_of f b r)
 unfolding states_of
 records_among f b r sound_states = sound_states.records b r
 
--- as much is known of the record
+-- The sessions, withdrawals and remakes of the record are the same.
 abbrev HasSameStates : Facts → Facts → List ℕ → List ℕ → Type 0
 HasSameStates f g b r = (states_among f g.sessions b r ≡ states_of f b r) × (is_withdrawn g b r ≡ is_withdrawn f b r) × (remakes_of g b r ≡ remakes_of f b r)
 
--- a finished batch, of whose records as much is known
+-- a finished batch about whose records the same is known
 pub record StaysFinished (f g : Facts) (b : List ℕ) : Type 0 where
   pub there : IsSome (batch_named f.batches b)
   pub finished : IsTrue (is_batch_finished f b)
@@ -168,7 +168,7 @@ module _ (f g : Facts) (grows : Grows f g) (sound : IsSound f) where
           (λ blank. IsSome_kept (lot_of f.lots blank) (lot_of g.lots blank) (grows.lots blank)) (charges g) lots;
     }
 
-    -- ---- what is known
+    -- ---- records and closed batches
 
     states_kept : (b r : List ℕ) → states_of g b r ≡ states_among f g.sessions b r
     states_kept b r =
@@ -177,7 +177,7 @@ module _ (f g : Facts) (grows : Grows f g) (sound : IsSound f) where
         (All-filter (is_for b r) (λ s. session_state g s ≡ session_state f s) g.sessions
         (All-weaker (IsSession f) (λ s. session_state g s ≡ session_state f s) state_kept g.sessions each))
 
-    -- a record stands as before, where as much is known of it
+    -- The state of a record is unchanged if the same is known about it.
     record_state_kept : (b r : List ℕ) → HasSameStates f g b r → record_state g b r ≡ record_state f b r
     unfolding record_state
     record_state_kept b r same =
@@ -211,7 +211,7 @@ module _ (f g : Facts) (grows : Grows f g) (sound : IsSound f) where
       closed = λ k d within. finished_kept _ (closed k d within);
     }
 
--- ---- nothing yet
+-- ---- empty facts
 
 pub sound_nothing : IsSound no_facts
 unfolding states_of
@@ -238,7 +238,7 @@ sound_nothing = record {
   };
 }
 
--- ---- one more product, lot or batch
+-- ---- a new product, lot or batch
 
 module _ (f : Facts) (products : List Product) (lots : List Lot) (batches : List Batch) where
   abbrev grown : Facts
@@ -270,7 +270,7 @@ sound_product f p sound new few is named =
     (record { few = sound.named.lots.few; once = sound.named.lots.once; each = All-weaker (IsLot f.products) (IsLot (with_product f p).products) (IsLot_kept f (with_product f p) grows sound) f.lots sound.named.lots.each; apart = sound.named.lots.apart })
     (record { few = sound.named.batches.few; once = sound.named.batches.once; each = All-weaker (IsBatch f.products) (IsBatch (with_product f p).products) (IsBatch_kept f (with_product f p) grows sound) f.batches sound.named.batches.each })
 
--- a lot apart from each
+-- a new lot that overlaps no other lot
 apart_push : (lots : List Lot) (l : Lot) → any_overlaps lots l.first l.count ≡ false → All (λ (m : Lot). AreApart m l) lots
 apart_push lots l none =
     All-weaker (λ (m : Lot). overlaps l.first l.count m ≡ false) (λ (m : Lot). AreApart m l)
@@ -316,13 +316,13 @@ sound_batch f b p rows sound new there read ranged few named =
       each = All-push (IsBatch f.products) f.batches b sound.named.batches.each is;
     })
 
--- ---- more known of the blanks, records and batches that are there
+-- ---- new facts about existing blanks, records and batches
 
 module _ (f : Facts) (sessions : List Session) (discarded : List ℕ) (remakes withdrawn : List RecordName) (closed : List (List ℕ)) where
   abbrev then : Facts
   then = record f { sessions = sessions; discarded = discarded; remakes = remakes; withdrawn = withdrawn; closed = closed }
 
-  -- under the same names
+  -- with the same products, lots and batches
   pub sound_then : IsSound f
       → All (IsSession f) sessions
       → ((machine : List ℕ) → count_by (runs_on f machine) sessions ≤ 1)
@@ -343,13 +343,13 @@ module _ (f : Facts) (sessions : List Session) (discarded : List ℕ) (remakes w
         states = are_states_after f then grows sound each records remade withdrawn withdrawn_once closed_once stay;
       }
 
--- closed batches stay finished, where as much is known of their records
+-- Closed batches are still finished if the same is known about their records.
 pub still_finished : (f g : Facts) → AreStates f → All (λ b. (r : List ℕ) → HasSameStates f g b r) f.closed → All (StaysFinished f g) f.closed
 still_finished f g sound_states same = λ k d within. record { there = sound_states.closed_there k d within; finished = sound_states.closed k d within; same = same k d within }
 
--- ---- a blank out of use
+-- ---- a discarded blank
 
--- a blank that is charged nowhere is none of the charged ones
+-- A blank that isn't charged is different from all charged blanks.
 pub uncharged : (f : Facts) (blank : ℕ) → is_charged f blank ≡ false → All (λ a. a ≢ blank) (charges f)
 uncharged f blank none =
     let parts = or_parts (list_any (λ (s : Session). eqb s.blank blank) f.sessions) (list_any (λ b. eqb b blank) f.discarded) none in
@@ -384,9 +384,9 @@ sound_close f b batch sound new there finished =
     (All-push (StaysFinished f g) f.closed b (still_finished f g sound.states (λ k d within. same _))
     (record { there = IsSome-Some (batch_named f.batches b) batch there; finished = finished; same = same b }))
 
--- ---- a record remade or withdrawn
+-- ---- a record that is remade or withdrawn
 
--- a record that failed, or waits
+-- Record `r` is failed or waiting.
 record IsOpen (f : Facts) (b r : List ℕ) (failed : Bool) : Type 0 where
   there : IsRecord f b r
   no_card : list_any has_card (states_of f b r) ≡ false
@@ -400,7 +400,7 @@ is_open f b r failed stands =
     let parts = open_parts (states_of f b r) (is_withdrawn f b r) (remakes_of f b r) failed sound_states.1 in
     record { there = sound_states.0; no_card = parts.0; stays = parts.1; more = parts.2 }
 
--- one more record among names, as a test of names sees it
+-- a test for a record, after a record with another name is added
 is_record-other : (b r c q : List ℕ) → bytes_eq b c ≡ false → is_record c q (record { batch = b; rec = r }) ≡ false
 is_record-other b r c q differ = and_left (bytes_eq b c) (bytes_eq r q) differ
 
@@ -427,7 +427,7 @@ withdrawn-other f b r c q miss =
     ∙ ap (λ t. is_withdrawn f c q || (t || false)) miss ∙ or-false (is_withdrawn f c q)
 
 module _ (f : Facts) (b r : List ℕ) (sound : IsSound f) (unclosed : is_closed f b ≡ false) where
-  -- a closed batch is another one
+  -- The closed batches are different from this batch.
   closed_other : All (λ c. bytes_eq b c ≡ false) f.closed
   closed_other = All-from_list_any (bytes_eq b) f.closed unclosed
 
@@ -480,7 +480,7 @@ sound_remake f b r sound unclosed stands =
     sound.states.withdrawn sound.states.withdrawn_once sound.states.closed_once
     (still_finished f g sound.states (λ k d within q. (refl, refl, remakes-other f b r _ q (is_record-other b r _ q (closed_other f b r sound unclosed k d within)))))
 
--- a record that failed, or waits, is withdrawn
+-- A record that is failed or waiting is withdrawn.
 pub sound_withdraw : (f : Facts) (b r : List ℕ) (failed : Bool) → IsSound f → is_closed f b ≡ false
     → record_state_of f b r ≡ Some (cond failed Failed Waiting) → IsSound (with_withdrawal f b r)
 unfolding states_of

@@ -1,4 +1,4 @@
--- The numbers and names of the refusals by rule (this project's profile).
+-- The numbers and names of the refusals (this project's profile).
 use Rattle.std.specs.Prelude.{◌==◌, ℕ, List, [], ◌∷◌, find, codes, Option}
 use Rattle.job_facts.specs.declared.refusal.Refusal.{Refusal}
 use Rattle.job_facts.specs.declared.refusal.Refusal.TheVariants.{ProductDiffers, ProductUnknown, LotDiffers, SerialsOverlap, BatchDiffers, BatchUnknown, BatchClosed, BlankUnknown, BlankOfOtherProduct, BlankUsed, NothingWaiting, SessionUnknown, NotYours, SessionEnded, OutOfTurn, RecordUnknown, NotFailed, NotWithdrawable, NotFinished, Limit, NumberReused, ReleaseTooFar}
@@ -27,16 +27,16 @@ code_of Limit = 71
 code_of NumberReused = 72
 code_of ReleaseTooFar = 74
 
--- all of them
+-- all refusals
 abbrev pub refusals : List Refusal
 refusals =
     ProductDiffers ∷ ProductUnknown ∷ LotDiffers ∷ SerialsOverlap ∷ BatchDiffers ∷ BatchUnknown ∷ BatchClosed ∷ BlankUnknown ∷ BlankOfOtherProduct ∷ BlankUsed ∷ NothingWaiting ∷ SessionUnknown ∷ NotYours ∷ SessionEnded ∷ OutOfTurn ∷ RecordUnknown ∷ NotFailed ∷ NotWithdrawable ∷ NotFinished ∷ Limit ∷ NumberReused ∷ ReleaseTooFar ∷ []
 
--- the one of a number
+-- the refusal with the number `n`
 unfoldable pub refusal_of : ℕ → Option Refusal
 refusal_of n = find (λ why. code_of why == n) refusals
 
--- the name that it has in replies
+-- the name of a refusal in replies
 abbrev pub name_of : Refusal → List ℕ
 name_of ProductDiffers = codes "product-differs"
 name_of ProductUnknown = codes "product-unknown"

@@ -1,5 +1,4 @@
--- What callers owe of a request and of its arrival: their numbers are in their ranges (this
--- project's profile).
+-- Preconditions of requests and arrivals: numbers are in their ranges (this project's profile).
 use Rattle.std.specs.Prelude.{◌≤◌, ◌<◌, ◌+◌, ◌^◌, ⊤}
 use Rattle.store_data.specs.Sequence.{IsProduct}
 use Rattle.job_facts.specs.declared.facts.Lot.{Lot}
@@ -9,7 +8,7 @@ use Rattle.job_facts.specs.declared.request.Call.TheVariants.{Job, Release}
 use Rattle.job_facts.specs.declared.request.Request.{Request}
 use Rattle.job_facts.specs.declared.request.Request.TheVariants as request
 
--- 1 to 1,000,000 blanks, the last of at most 18 digits
+-- The lot has 1 to 1,000,000 blanks, and its last serial has at most 18 digits.
 pub record IsLotRange (l : Lot) : Type 0 where
   pub least : 1 ≤ l.count
   pub most : l.count ≤ 1000000
@@ -32,7 +31,7 @@ abbrev pub IsCall : Call → Type 0
 IsCall (Job r) = IsRequest r
 IsCall (Release upto) = (1 ≤ upto) × (upto < 10 ^ 18)
 
--- number and call in range
+-- The request number and the call are in their ranges.
 pub record IsArrival (a : Arrival) : Type 0 where
   pub least : 1 ≤ a.number
   pub most : a.number < 10 ^ 18

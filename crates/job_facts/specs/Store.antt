@@ -1,44 +1,49 @@
--- What a store stands for, and what its calls do to that.
+-- The state of a store, and the effect of its calls on this state.
 use Rattle.std.specs.Prelude.{◌≡◌, ◌⊎◌, ◌≤◌, ◌+◌, ◌-◌, ◌^◌, ℕ, min, Option, None, Some, Result, Ok, Err, IfOk, OnOk, OnErr}
 use Rattle.job_facts.specs.declared.store.StoreFault.{StoreFault}
 use Rattle.job_facts.specs.declared.store.StoreFault.TheVariants.{Memory, Device, Full}
 use Rattle.job_facts.specs.Contents.{AreSame, Contents}
 
+-- the state of a store
 pub record State : Type 1 where
-  -- The store stands for these contents. One that a fault has shut stands for any sound ones.
+  -- The store represents the contents. After a fault has made it unusable, it represents any sound
+  -- contents.
   pub holds : Contents → Type 0
-  -- how often its device did not return what was written
+  -- the number of times that the device didn't return what was written
   pub doubts : ℕ
-  -- how often it answered that its device failed: it did, gave what it cannot have been given, or
-  -- refused what was not owed; lists have no device
+  -- the number of `Device` faults returned: the device failed or returned data that can't have been
+  -- written, or a call violated its precondition. A store of lists has no device.
   pub failed : ℕ
-  -- how often it answered that its device is full
+  -- the number of `Full` faults returned
   pub full : ℕ
-  -- what an open after a crash at this moment may find: contents, or none, and it is refused
+  -- the possible results of opening the store after a crash now: contents, or `None` if the open is
+  -- refused
   pub may_leave : Option Contents → Type 0
 
--- these contents are found
+-- `d` is the result of an open that isn't refused and finds the contents `c`, with sets in any
+-- order.
 abbrev pub IsFound : Option Contents → Contents → Type 0
 IsFound None c = ⊥
 IsFound (Some d) c = AreSame d c
 
--- so far the device has returned what was written
+-- The device is correct: so far it has returned what was written.
 abbrev pub IsHonest : State → Type 0
 IsHonest s = s.doubts ≡ 0
 
--- ---- what calls do
+-- ---- the effect of calls
 
--- nothing is changed, whatever the outcome
+-- The call doesn't change the contents, and adds no possible result of an open after a crash,
+-- whether it succeeds or fails.
 pub record Stays (old new : State) : Type 0 where
   pub doubts : old.doubts ≤ new.doubts
   pub contents : IsHonest new → (c : Contents) → old.holds c → new.holds c
   pub crash : IsHonest new → (d : Option Contents) → new.may_leave d → old.may_leave d
 
--- what is answered is this of the contents
+-- If the device is correct and the call succeeds, `P` is true of the contents and the result.
 abbrev pub Reads : {T : Type 0} → State → State → Result T StoreFault → (Contents → T → Type 0) → Type 0
 Reads old new result P = IsHonest new → (c : Contents) → old.holds c → IfOk result (λ answer. P c answer)
 
--- one more; a count of 64 bits stays at its end
+-- `n` plus 1; a count of 64 bits doesn't increase at its maximum
 abbrev pub one_more : ℕ → ℕ
 one_more n = min (n + 1) (2 ^ 64 - 1)
 
@@ -60,17 +65,18 @@ abbrev pub full_after : {T : Type 0} → Result T StoreFault → ℕ → ℕ
 full_after (Ok x) n = n
 full_after (Err fault) n = full_by fault n
 
--- a fault of the device is reported where its count goes up, and nowhere else
+-- A count of faults increases by one if the call returns this fault, and doesn't change otherwise.
 pub record CountsFaults {T : Type 0} (old new : State) (result : Result T StoreFault) : Type 0 where
   pub failed : new.failed ≡ failed_after result old.failed
   pub full : new.full ≡ full_after result old.full
 
--- the contents become those after, with all of it, or stay
+-- If the call succeeds, the contents become `after` of the old contents. If it fails, they are
+-- unchanged.
 pub record Commits (old new : State) (result : Result (Unit {0}) StoreFault) (Owed : Contents → Type 0) (after : Contents → Contents) : Type 0 where
   pub doubts : old.doubts ≤ new.doubts
   pub ok : OnOk result (IsHonest new → (c : Contents) → old.holds c → Owed c → new.holds (after c))
   pub err : OnErr result (IsHonest new → (c : Contents) → old.holds c → Owed c → new.holds c)
-  -- a crash leaves what it could leave before, or all of it
+  -- An open after a crash finds what it could find before the call, or the complete new contents.
   pub crash : IsHonest new → (c : Contents) (d : Option Contents) → old.holds c → Owed c → new.may_leave d → old.may_leave d ⊎ IsFound d (after c)
-  -- and at Ok only the latter
+  -- If the call succeeds, an open after a crash finds the new contents.
   pub settled : OnOk result (IsHonest new → (c : Contents) (d : Option Contents) → old.holds c → Owed c → new.may_leave d → IsFound d (after c))

@@ -1,5 +1,5 @@
-//! The facts of batches, cards and blanks: requests, replies, what the plain machine makes of them
-//! by definition, and what a store of the facts promises.
+//! The reference model: facts about batches, cards and blanks, requests and replies, the definition
+//! of their effect, and the interface of a store that keeps the facts.
 #![tactic(auto)]
 
 mod change;

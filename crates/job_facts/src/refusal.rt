@@ -1,4 +1,4 @@
-//! Refusals by rule.
+//! Refusals, with their numbers and names.
 ghost use Rattle.std.specs.Prelude.{◌≡◌, IfSome, Some};
 ghost use Rattle.job_facts.specs.Refusals.{code_of, name_of, refusal_of};
 ghost use Rattle.job_facts.specs.declared.refusal.Refusal.{Refusal as RefusalValue};
@@ -6,70 +6,71 @@ ghost use Rattle.job_facts.specs.declared.refusal.Refusal.{Refusal as RefusalVal
 use std::error::Error;
 use std::fmt;
 
-/// The number of the refusal that names a machine's running session, machine-busy.
+/// The number of the refusal machine-busy, whose reply has the running session of the machine.
 pub const MACHINE_BUSY: u8 = 61;
 
-/// The number of the refusal that names a client's release mark, number-released.
+/// The number of the refusal number-released, whose reply has the release mark of the client.
 pub const NUMBER_RELEASED: u8 = 73;
 
-/// Why a request is refused (this project's profile).
+/// The reason why a request is refused (this project's profile).
 #[derive(Clone, Copy, Debug, PartialEq, Eq)]
 pub enum Refusal {
-    /// The product's code is there with other values.
+    /// The product exists with a different `max`, `low` or `check`.
     ProductDiffers = 51,
-    /// There is no such product.
+    /// The product doesn't exist.
     ProductUnknown = 52,
-    /// The lot's name is there with other values.
+    /// The lot exists with a different product or range of serials.
     LotDiffers = 53,
-    /// A serial of the lot lies in another lot.
+    /// One of the serials is already in a lot.
     SerialsOverlap = 54,
-    /// The batch's name is there with another product or other bytes.
+    /// The batch exists with a different product or different bytes.
     BatchDiffers = 55,
-    /// There is no such batch.
+    /// The batch doesn't exist.
     BatchUnknown = 56,
     /// The batch is closed.
     BatchClosed = 57,
-    /// The blank lies in no lot.
+    /// No lot contains the blank.
     BlankUnknown = 58,
-    /// The blank is of another product.
+    /// The blank has a different product than the batch.
     BlankOfOtherProduct = 59,
-    /// The blank was used or discarded.
+    /// The blank is charged: it was opened or discarded before.
     BlankUsed = 60,
-    /// No record of the batch wants a card.
+    /// No record of the batch is waiting.
     NothingWaiting = 62,
-    /// There is no such session.
+    /// The session doesn't exist.
     SessionUnknown = 63,
-    /// The session is another client's.
+    /// Another client opened the session.
     NotYours = 64,
-    /// The session does not run any more.
+    /// The session is good or spoiled.
     SessionEnded = 65,
-    /// The word is not for the command that was handed out last.
+    /// The index isn't the index of the command sent last.
     OutOfTurn = 66,
-    /// The batch has no such record.
+    /// The batch doesn't contain the record.
     RecordUnknown = 67,
-    /// The record has not failed.
+    /// The record isn't failed.
     NotFailed = 68,
-    /// The record neither waits nor has failed.
+    /// The record is neither waiting nor failed.
     NotWithdrawable = 69,
     /// A record of the batch is neither good nor withdrawn.
     NotFinished = 70,
-    /// There are as many as there may be.
+    /// The maximum number of products, lots or batches exists.
     Limit = 71,
-    /// The request's number is kept with another ask.
+    /// The request number was used with different request bytes.
     NumberReused = 72,
-    /// The release reaches its own number.
+    /// The release includes its own number or a higher one.
     ReleaseTooFar = 74,
 }
 
 impl Refusal {
-    /// The refusal's number, 51 to 74 but 61, which names a session, and 73, which names a mark.
+    /// Returns the number of the refusal: 51 to 74, except 61 and 73, whose replies have a session
+    /// or a release mark.
     pub fn code(self) -> u8
         ensures { result ≡ code_of self }
     {
         self as u8
     }
 
-    /// The refusal of a number, or `None` where it is none's.
+    /// Returns the refusal with the number `code`, or `None` if there isn't one.
     #[tactic(auto, unfolding(crate::specs::Refusals::refusal_of))]
     pub fn from_code(code: u64) -> Option<Refusal>
         ensures is { result ≡ refusal_of code }
@@ -103,7 +104,7 @@ impl Refusal {
         }
     }
 
-    /// The name that it has in replies (this project's profile).
+    /// Returns the name of the refusal in replies (this project's profile).
     pub fn name(self) -> &'static str
         ensures { result.now ≡ name_of self }
     {

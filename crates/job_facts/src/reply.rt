@@ -1,16 +1,18 @@
-//! What requests are answered.
+//! The replies to requests.
 use crate::refusal::Refusal;
 use batch_import::RowFault;
 use store_data::{Bytes, Name};
 
-/// Whether something was made, or was there already with the same values.
+/// The effect of a request that registers something.
 #[derive(Clone, Copy, Debug, PartialEq, Eq)]
 pub enum Made {
+    /// It was created.
     Created,
+    /// It already exists with the same values, and nothing changed.
     Known,
 }
 
-/// What a request is answered.
+/// The reply to a request.
 #[derive(Drop)]
 pub enum Reply {
     Product {
@@ -21,14 +23,14 @@ pub enum Reply {
         lot: Name,
         made: Made,
     },
-    /// The numbers are those of the batch that is kept.
+    /// The numbers of records and rows of the stored batch.
     Import {
         batch: Name,
         records: u32,
         made: Made,
         rows: u32,
     },
-    /// A session was opened, and its first command is handed out.
+    /// A new session, with its first command.
     Opened {
         batch: Name,
         blank: u64,
@@ -36,7 +38,7 @@ pub enum Reply {
         rec: Name,
         session: u64,
     },
-    /// The session's next command is handed out.
+    /// The next command of a session.
     Next {
         command: Bytes,
         index: u64,
@@ -48,7 +50,7 @@ pub enum Reply {
     Spoiled {
         session: u64,
     },
-    /// The session that was given up; none is 0.
+    /// The number of the session that was ended, or 0 if no session was running.
     Reset {
         session: u64,
     },
@@ -69,20 +71,20 @@ pub enum Reply {
     Refused {
         refusal: Refusal,
     },
-    /// The machine has a running session (refusal 61, machine-busy).
+    /// The running session of the machine (refusal 61, machine-busy).
     Busy {
         session: u64,
     },
-    /// The client's numbers up to this mark are released.
+    /// The release mark of the client after a release.
     Released {
         mark: u64,
     },
-    /// The number is released, as all of its client's up to this mark (refusal 73,
+    /// The release mark of the client. The request number is at most this mark (refusal 73,
     /// number-released).
     NumberReleased {
         mark: u64,
     },
-    /// The batch file's first fault.
+    /// The first fault of the batch file.
     Faulty {
         fault: RowFault,
     },

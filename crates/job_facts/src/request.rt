@@ -1,77 +1,80 @@
-//! What clients ask.
+//! The requests of clients.
 use crate::facts::Lot;
 use store_data::{Bytes, Name, Product};
 
-/// A request of a client. Numbers lie in the ranges of this project's profile.
+/// A request, except a release. Numbers are in the ranges of this project's profile.
 #[derive(Drop)]
 pub enum Request {
-    /// Makes a product known.
+    /// Registers a product.
     Product {
         product: Product,
     },
-    /// Makes blanks known.
+    /// Registers the blanks of a lot.
     Lot {
         lot: Lot,
     },
-    /// Takes in a batch file for a product.
+    /// Imports the batch file `raw` for a product.
     Import {
         batch: Name,
         product: Name,
         raw: Bytes,
     },
-    /// Asks for the next record of a batch that wants a card, for a blank.
+    /// Opens a session for the first waiting record of a batch, on the blank `blank`.
     Open {
         batch: Name,
         blank: u64,
     },
-    /// Reports the status word that the card gave to a command.
+    /// Reports the status word `sw` of the card for the command `index`.
     Answer {
         session: u64,
         index: u32,
         sw: u16,
     },
-    /// Gives up a session.
+    /// Ends a session, which is then spoiled.
     Abort {
         session: u64,
     },
-    /// Gives up the client's running session, if it has one.
+    /// Ends the running session of the client, if there is one. It is then spoiled.
     Reset,
-    /// Takes a blank out of use.
+    /// Charges a blank that won't be used.
     Discard {
         blank: u64,
     },
-    /// Lets a failed record wait again.
+    /// Changes a failed record back to waiting.
     Remake {
         batch: Name,
         rec: Name,
     },
-    /// Lets a record want no card any more.
+    /// Excludes a record from production.
     Withdraw {
         batch: Name,
         rec: Name,
     },
-    /// Closes a batch that is finished.
+    /// Closes a finished batch.
     Close {
         batch: Name,
     },
 }
 
-/// What a client calls for.
+/// A request or a release.
 #[derive(Drop)]
 pub enum Call {
-    /// A request of the plain machine.
+    /// A request that the reference model decides.
     Job { request: Request },
-    /// Gives up what is kept under the client's numbers up to this one, 1 to
-    /// 999,999,999,999,999,999.
+    /// A release of the client's numbers up to `upto`, 1 to 999,999,999,999,999,999, which deletes
+    /// the replies kept under them.
     Release { upto: u64 },
 }
 
-/// A call under its client's number, with the bytes that asked for it.
+/// A request as received, with its client, request number and request bytes.
 #[derive(Drop)]
 pub struct Arrival {
+    /// The client.
     pub client: Name,
-    /// 1 to 999,999,999,999,999,999.
+    /// The request number, 1 to 999,999,999,999,999,999.
     pub number: u64,
+    /// The request bytes.
     pub ask: Bytes,
+    /// The request.
     pub request: Call,
 }

@@ -1,37 +1,46 @@
-//! A store that a server serves over, and closes at the end.
+//! The interface of a store that a server uses, and closes at the end.
 use crate::store::{JobStore, StoreFault};
 
-/// How often a store answered that its device failed, and that it is full. A count stays at its
-/// greatest value.
+/// The number of faults that a store has returned. At the maximum of `u64` a count no longer
+/// increases.
 #[derive(Clone, Copy, Debug, PartialEq, Eq)]
 pub struct FaultCounts {
+    /// The number of `Device` faults.
     pub failed: u64,
+    /// The number of `Full` faults.
     pub full: u64,
 }
 
-/// A store that a server serves over: it says how often it failed and how many replies it keeps,
-/// and it is closed at the end.
+/// A store that a server uses, and closes at the end. It counts its faults and its kept replies.
 pub trait ServerStore: JobStore {
     ghost use Rattle.std.specs.Prelude.{◌≡◌, OnOk, length};
     ghost use Rattle.job_facts.specs.Store.{CountsFaults, Reads, Stays};
     ghost use Rattle.job_facts.specs.Reopening.{counts_of};
 
-    /// What holds of a store that was closed without a fault.
+    /// The condition that is true of a store after it was closed without a fault.
     ghost closed: { Self → Type 0 };
 
-    /// How often it failed since it was opened.
+    /// Returns the numbers of faults since the store was opened.
     fn fault_counts(&self) -> FaultCounts
         ensures { result ≡ counts_of (Self.state self.now) };
 
-    /// How many replies it keeps.
+    /// Returns the number of kept replies.
     fn reply_count(&mut self) -> Result<u64, StoreFault>
         ensures stays { Stays (Self.state self.old) (Self.state self.new) }
         ensures value { Reads (Self.state self.old) (Self.state self.new) result
             (λ c answer. answer ≡ length c.kept) }
         ensures faults { CountsFaults (Self.state self.old) (Self.state self.new) result };
 
-    /// Closes it. Errors: a device that fails or is full, and refused memory; what was committed
-    /// stands.
+    /// Closes the store. After an error, everything committed before is still stored.
+    ///
+    /// A caller that works with any store can show that the store is closed (`closed`) only if the
+    /// result is `Ok`.
+    ///
+    /// # Errors
+    ///
+    /// - `Memory` if an allocation fails.
+    /// - `Device` if the device fails.
+    /// - `Full` if the device is full.
     fn finish(self) -> Result<(), StoreFault>
         ensures { OnOk result (closed self) };
 }

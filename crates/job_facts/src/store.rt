@@ -1,4 +1,4 @@
-//! What a store of the facts and the kept replies promises, whatever it is made of.
+//! The interface of a store that keeps facts, kept replies and release marks.
 ghost use Rattle.std.specs.Prelude.{◌≡◌};
 
 use crate::change::Change;
@@ -9,10 +9,10 @@ use crate::rows::{
 use std::alloc::{AllocError, AllocFailed};
 use store_data::{Name, Product};
 
-/// Why a store did not answer.
+/// The reason why a call of a store failed.
 #[derive(Clone, Copy, Debug, PartialEq, Eq)]
 pub enum StoreFault {
-    /// A growth was refused.
+    /// An allocation failed.
     Memory,
     /// The device failed.
     Device,
@@ -40,8 +40,8 @@ impl<T: Drop> From<AllocFailed<T>> for StoreFault {
     }
 }
 
-/// The facts and the kept replies. A read changes nothing, and may take memory from the store's own
-/// allocator.
+/// A store of facts, kept replies and release marks. Reads don't change them, and may allocate with
+/// the store's own allocator. All calls can return any `StoreFault`.
 pub trait JobStore {
     ghost use Rattle.std.specs.Prelude.{◌≡◌, ◌≤◌, ◌<◌, ◌^◌, IfOk, IfSome, length, option_map};
     ghost use Rattle.store_data.specs.Cursor.{IsCursor};
@@ -59,10 +59,11 @@ pub trait JobStore {
     ghost use Rattle.job_facts.specs.States.{record_state_of, running_session};
     ghost use Rattle.job_facts.specs.Store.{Commits, CountsFaults, Reads, State, Stays};
 
-    /// What it stands for, and what a crash may leave of it.
+    /// The contents of the store, its counters, and the contents that an open after a crash may
+    /// find.
     ghost state: { Self → State };
 
-    /// The product of this code.
+    /// Returns the product with the name `code`.
     fn product(&mut self, code: &Name) -> Result<Option<Product>, StoreFault>
         ensures stays { Stays (state self.old) (state self.new) }
         ensures value { Reads (state self.old) (state self.new) result
@@ -70,70 +71,70 @@ pub trait JobStore {
         ensures ranged { IfOk result (λ answer. IfSome answer IsProduct) }
         ensures faults { CountsFaults (state self.old) (state self.new) result };
 
-    /// The lot of this name.
+    /// Returns the lot with the name `name`.
     fn lot(&mut self, name: &Name) -> Result<Option<Lot>, StoreFault>
         ensures stays { Stays (state self.old) (state self.new) }
         ensures value { Reads (state self.old) (state self.new) result
             (λ c answer. answer ≡ lot_named c.facts.lots name.now) }
         ensures faults { CountsFaults (state self.old) (state self.new) result };
 
-    /// The lot in which a blank lies.
+    /// Returns the lot that contains `blank`.
     fn lot_of(&mut self, blank: u64) -> Result<Option<Lot>, StoreFault>
         ensures stays { Stays (state self.old) (state self.new) }
         ensures value { Reads (state self.old) (state self.new) result
             (λ c answer. answer ≡ lot_of c.facts.lots blank) }
         ensures faults { CountsFaults (state self.old) (state self.new) result };
 
-    /// Whether a serial of the range lies in a lot.
+    /// Returns `true` if a lot contains one of the `count` serials that start with `first`.
     fn overlaps(&mut self, first: u64, count: u32) -> Result<bool, StoreFault>
         ensures stays { Stays (state self.old) (state self.new) }
         ensures value { Reads (state self.old) (state self.new) result
             (λ c answer. answer ≡ any_overlaps c.facts.lots first count) }
         ensures faults { CountsFaults (state self.old) (state self.new) result };
 
-    /// The batch of this name.
+    /// Returns the batch with the name `name`.
     fn batch(&mut self, name: &Name) -> Result<Option<BatchRow>, StoreFault>
         ensures stays { Stays (state self.old) (state self.new) }
         ensures value { Reads (state self.old) (state self.new) result
             (λ c answer. answer ≡ batch_row_of c.facts name.now) }
         ensures faults { CountsFaults (state self.old) (state self.new) result };
 
-    /// How many rows and records the batch of this name has.
+    /// Returns the numbers of rows and records of the batch `name`.
     fn batch_size(&mut self, name: &Name) -> Result<Option<BatchSize>, StoreFault>
         ensures stays { Stays (state self.old) (state self.new) }
         ensures value { Reads (state self.old) (state self.new) result
             (λ c answer. answer ≡ batch_size_of c.facts name.now) }
         ensures faults { CountsFaults (state self.old) (state self.new) result };
 
-    /// Whether the batch of this name has these bytes.
+    /// Returns `true` if the batch `name` was imported from exactly the bytes `raw`.
     fn batch_has(&mut self, name: &Name, raw: &[u8]) -> Result<bool, StoreFault>
         ensures stays { Stays (state self.old) (state self.new) }
         ensures value { Reads (state self.old) (state self.new) result
             (λ c answer. answer ≡ batch_has c.facts name.now raw.now) }
         ensures faults { CountsFaults (state self.old) (state self.new) result };
 
-    /// The state of a record, if the batch has it.
+    /// Returns the state of the record `rec`, or `None` if the batch doesn't contain it.
     fn record_state(&mut self, batch: &Name, rec: &Name) -> Result<Option<RecordState>, StoreFault>
         ensures stays { Stays (state self.old) (state self.new) }
         ensures value { Reads (state self.old) (state self.new) result
             (λ c answer. answer ≡ record_state_of c.facts batch.now rec.now) }
         ensures faults { CountsFaults (state self.old) (state self.new) result };
 
-    /// The first waiting record of a batch, in file order.
+    /// Returns the first waiting record of `batch`, in file order.
     fn first_waiting(&mut self, batch: &Name) -> Result<Option<Name>, StoreFault>
         ensures stays { Stays (state self.old) (state self.new) }
         ensures value { Reads (state self.old) (state self.new) result
             (λ c answer. answer ≡ first_waiting c.facts batch.now) }
         ensures faults { CountsFaults (state self.old) (state self.new) result };
 
-    /// Whether each record of a batch is good or withdrawn.
+    /// Returns `true` if every record of `batch` is good or withdrawn.
     fn is_finished(&mut self, batch: &Name) -> Result<bool, StoreFault>
         ensures stays { Stays (state self.old) (state self.new) }
         ensures value { Reads (state self.old) (state self.new) result
             (λ c answer. answer ≡ is_batch_finished c.facts batch.now) }
         ensures faults { CountsFaults (state self.old) (state self.new) result };
 
-    /// The session of this number.
+    /// Returns the session with the number `session`.
     fn session(&mut self, session: u64) -> Result<Option<SessionRow>, StoreFault>
         ensures stays { Stays (state self.old) (state self.new) }
         ensures value { Reads (state self.old) (state self.new) result
@@ -142,21 +143,22 @@ pub trait JobStore {
             (λ answer. IfSome answer (λ (row : SessionRowValue). IsCursor row.cursor)) }
         ensures faults { CountsFaults (state self.old) (state self.new) result };
 
-    /// The number of a machine's running session.
+    /// Returns the number of the running session of `machine`.
     fn running_session(&mut self, machine: &Name) -> Result<Option<u64>, StoreFault>
         ensures stays { Stays (state self.old) (state self.new) }
         ensures value { Reads (state self.old) (state self.new) result
             (λ c answer. answer ≡ running_session c.facts machine.now) }
         ensures faults { CountsFaults (state self.old) (state self.new) result };
 
-    /// Whether an opening or a discard names the blank.
+    /// Returns `true` if `blank` is charged by an `open` or a `discard`.
     fn is_charged(&mut self, blank: u64) -> Result<bool, StoreFault>
         ensures stays { Stays (state self.old) (state self.new) }
         ensures value { Reads (state self.old) (state self.new) result
             (λ c answer. answer ≡ is_charged c.facts blank) }
         ensures faults { CountsFaults (state self.old) (state self.new) result };
 
-    /// Segment `segment` of application `app` of a record, both from 0, if the record has it.
+    /// Returns segment `segment` of application `app` of the record `rec`, or `None` if the record
+    /// doesn't have it. Both numbers start at 0.
     fn segment(
         &mut self,
         batch: &Name,
@@ -171,28 +173,28 @@ pub trait JobStore {
             (λ answer. IfSome answer (λ (row : SegmentRowValue). row.low ≤ 31)) }
         ensures faults { CountsFaults (state self.old) (state self.new) result };
 
-    /// How many products there are.
+    /// Returns the number of products.
     fn product_count(&mut self) -> Result<u64, StoreFault>
         ensures stays { Stays (state self.old) (state self.new) }
         ensures value { Reads (state self.old) (state self.new) result
             (λ c answer. answer ≡ length c.facts.products) }
         ensures faults { CountsFaults (state self.old) (state self.new) result };
 
-    /// How many lots there are.
+    /// Returns the number of lots.
     fn lot_count(&mut self) -> Result<u64, StoreFault>
         ensures stays { Stays (state self.old) (state self.new) }
         ensures value { Reads (state self.old) (state self.new) result
             (λ c answer. answer ≡ length c.facts.lots) }
         ensures faults { CountsFaults (state self.old) (state self.new) result };
 
-    /// How many batches there are.
+    /// Returns the number of batches.
     fn batch_count(&mut self) -> Result<u64, StoreFault>
         ensures stays { Stays (state self.old) (state self.new) }
         ensures value { Reads (state self.old) (state self.new) result
             (λ c answer. answer ≡ length c.facts.batches) }
         ensures faults { CountsFaults (state self.old) (state self.new) result };
 
-    /// How many sessions there are.
+    /// Returns the number of sessions.
     fn session_count(&mut self) -> Result<u64, StoreFault>
         ensures stays { Stays (state self.old) (state self.new) }
         ensures value { Reads (state self.old) (state self.new) result
@@ -200,42 +202,45 @@ pub trait JobStore {
         ensures ranged { IfOk result (λ answer. answer < 2 ^ 63) }
         ensures faults { CountsFaults (state self.old) (state self.new) result };
 
-    /// How a batch stands.
+    /// Returns the counters of `batch`, which are all 0 if the batch doesn't exist.
     fn batch_totals(&mut self, batch: &Name) -> Result<BatchTotals, StoreFault>
         ensures stays { Stays (state self.old) (state self.new) }
         ensures value { Reads (state self.old) (state self.new) result
             (λ c answer. answer ≡ batch_totals c.facts batch.now) }
         ensures faults { CountsFaults (state self.old) (state self.new) result };
 
-    /// How the records of a batch stand, in file order.
+    /// Returns a line for each record of `batch`, in file order.
     fn record_lines(&mut self, batch: &Name) -> Result<Vec<RecordLine>, StoreFault>
         ensures stays { Stays (state self.old) (state self.new) }
         ensures value { Reads (state self.old) (state self.new) result
             (λ c lines. lines.items ≡ record_lines c.facts batch.now) }
         ensures faults { CountsFaults (state self.old) (state self.new) result };
 
-    /// How a product's blanks stand.
+    /// Returns the counters of the blanks of `product`.
     fn blank_totals(&mut self, product: &Name) -> Result<BlankTotals, StoreFault>
         ensures stays { Stays (state self.old) (state self.new) }
         ensures value { Reads (state self.old) (state self.new) result
             (λ c answer. answer ≡ blank_totals c.facts product.now) }
         ensures faults { CountsFaults (state self.old) (state self.new) result };
 
-    /// The reply that is kept under a client's number.
+    /// Returns the reply that is kept under the number `number` of `client`.
     fn kept(&mut self, client: &Name, number: u64) -> Result<Option<KeptReply>, StoreFault>
         ensures stays { Stays (state self.old) (state self.new) }
         ensures value { Reads (state self.old) (state self.new) result
             (λ c answer. answer ≡ option_map reply_of_entry (entry_of c.kept client.now number)) }
         ensures faults { CountsFaults (state self.old) (state self.new) result };
 
-    /// The number up to which a client has released its numbers; 0 where it never did.
+    /// Returns the release mark of `client`, or 0 if it has released nothing.
     fn mark(&mut self, client: &Name) -> Result<u64, StoreFault>
         ensures stays { Stays (state self.old) (state self.new) }
         ensures value { Reads (state self.old) (state self.new) result
             (λ c answer. answer ≡ mark_of c.marks client.now) }
         ensures faults { CountsFaults (state self.old) (state self.new) result };
 
-    /// Keeps a reply and makes its change together, or does neither.
+    /// Stores a change and the reply to its request in one transaction.
+    ///
+    /// If the call fails, the contents of the store are unchanged. An open after a crash then finds
+    /// what it could find before the call, or the contents with the change and the reply.
     fn commit(
         &mut self,
         client: &Name,
@@ -257,8 +262,11 @@ pub trait JobStore {
             (λ c. committed c change.now entry) }
         ensures faults { CountsFaults (state self.old) (state self.new) result };
 
-    /// Keeps a reply, sets the client's release mark and drops its replies up to the mark together,
-    /// or does nothing.
+    /// Stores the release mark `mark` of the client and the reply to the release in one
+    /// transaction, and deletes the client's kept replies up to the mark.
+    ///
+    /// If the call fails, the contents of the store are unchanged. An open after a crash then finds
+    /// what it could find before the call, or the contents after the release.
     fn release(
         &mut self,
         client: &Name,
@@ -280,6 +288,6 @@ pub trait JobStore {
             (λ c. released c mark entry) }
         ensures faults { CountsFaults (state self.old) (state self.new) result };
 
-    /// What it stands for is sound.
+    /// The contents of the store are sound.
     ghost sound: { (store : Self) (c : Contents) → (state store).holds c → AreSound c };
 }

@@ -1,4 +1,4 @@
--- The totals of a product's blanks, from their parts.
+-- The counters of the blanks of a product, from their parts.
 use Rattle.std.proofs.Common.{◌≡◌, ℕ, List, length, map}
 use Rattle.std.specs.Prelude.{count_by, filter, sum_by}
 use Rattle.job_facts.specs.declared.facts.Lot.{Lot}

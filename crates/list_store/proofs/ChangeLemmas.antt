@@ -1,4 +1,4 @@
--- A change of one session, by its place.
+-- A change of one session, by its index.
 use Rattle.std.proofs.Common.{◌≡◌, ℕ, zero, suc, ◌-◌, ◌<◌, ◌≤◌, List, [], ◌∷◌, length, get_or, set, refl, ap, ◌∙◌, arith}
 use Rattle.job_facts.specs.Facts.{Session, at_session}
 
@@ -15,7 +15,7 @@ module _ (change : Session → Session) where
       let place : suc (s - 1) ≡ s = omega arith in
       set_at sessions (s - 1) d new (omega arith) is ∙ ap (λ n. at_session n change sessions) place
 
-  -- there is none with that number
+  -- If no session has the number `s`, nothing changes.
   pub no_session : (sessions : List Session) (s : ℕ) → (0 < s → length sessions < s) → sessions ≡ at_session s change sessions
   no_session [] s e = refl
   no_session (x ∷ sessions) zero e = refl

@@ -1,4 +1,4 @@
--- A session without a plan is one with a plan that has no commands.
+-- A session without a plan has the same state and cursor as a session with a plan without commands.
 use Rattle.std.proofs.Common.{◌≡◌, ℕ, zero, suc, Option, Some, None, refl, ap}
 use Rattle.std.specs.Prelude.{option_and_then, unwrap_or}
 use Rattle.store_data.specs.Cursor.{cursor_at, cursors_of, select_cursor}

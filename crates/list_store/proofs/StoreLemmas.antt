@@ -1,4 +1,4 @@
--- What a commit or a release makes of the contents of the lists.
+-- The contents of the lists after a commit or a release.
 use Rattle.std.proofs.Common.{◌≡◌, ℕ, List, ◌∷◌, ◌++◌, [], Option, Some, Ok, sym, ap, ◌∙◌, subst, inr, arith}
 use Rattle.job_facts.specs.declared.change.Change.{Change}
 use Rattle.job_facts.specs.Facts.{Facts}
@@ -8,11 +8,11 @@ use Rattle.job_facts.specs.Store.{Commits, IsFound}
 use Rattle.job_facts.proofs.NextContents.{AreSame-refl, sound_committed, sound_released}
 use Rattle.list_store.specs.Lists.{state_of}
 
--- what is there is found
+-- An open after a crash finds the contents of the lists.
 pub found : (old c : Contents) → old ≡ c → (d : Option Contents) → d ≡ Some old → IsFound d c
 found old c is d at = subst (λ x. IsFound x c) (sym (at ∙ ap Some is)) (AreSame-refl c)
 
--- contents that have become those after
+-- If the new contents are `after old`, the call has stored its change with its reply.
 lists_change : (old new : Contents) (Owed : Contents → Type 0) (after : Contents → Contents) → new ≡ after old
     → ((c : Contents) → AreSound c → Owed c → AreSound (after c)) → Commits (state_of old) (state_of new) (Ok tt) Owed after
 lists_change old new Owed after made keeps =

@@ -1,4 +1,4 @@
-//! The accounts of batches, records and blanks.
+//! Computes the accounts of batches, records and blanks.
 ghost use Rattle.std.specs.Prelude.{◌≡◌, ◌&&◌, IfErr, IfOk, bytes_eq, count_by, filter, find};
 ghost use Rattle.std.specs.Prelude.{length, map, option_map, sum_by};
 ghost use Rattle.job_facts.specs.declared.store.StoreFault.TheVariants.{Memory};
@@ -22,7 +22,7 @@ use store_data::Name;
 
 // ---- a batch
 
-// The states of these records.
+// Returns the states of the records `names` of `batch`.
 fn record_states(
     alloc: Global,
     facts: &FactLists,
@@ -40,7 +40,7 @@ fn record_states(
     Ok(states)
 }
 
-// The states of a batch's sessions among these.
+// Returns the states of the sessions of `batch`.
 fn session_states(
     alloc: Global,
     facts: &FactLists,
@@ -61,14 +61,14 @@ fn session_states(
     Ok(states)
 }
 
-// How many records stand so.
+// Returns the number of records with the state `state`.
 fn count_records(states: &[RecordState], state: RecordState) -> u64
     ensures { result ≡ count_records states.now state }
 {
     states.iter().filter(|other| **other == state).count() as u64
 }
 
-/// How a batch stands.
+/// Returns the counters of `batch`.
 #[tactic(auto, unfolding(job_facts::specs::Accounts::batch_totals, job_facts::specs::Accounts::record_states, job_facts::specs::Accounts::session_states))]
 pub(crate) fn batch_totals(
     alloc: Global,
@@ -95,7 +95,7 @@ pub(crate) fn batch_totals(
 
 // ---- a record
 
-// The blank of a record's first good session among these.
+// Returns the blank of the first good session of the record `rec`.
 fn good_blank(
     alloc: Global,
     facts: &FactLists,
@@ -138,7 +138,7 @@ fn record_line(
     })
 }
 
-/// How the records of a batch stand, in file order.
+/// Returns the lines of the records of `batch`, in file order.
 #[tactic(auto, unfolding(job_facts::specs::Accounts::record_lines))]
 pub(crate) fn record_lines(
     alloc: Global,
@@ -156,7 +156,7 @@ pub(crate) fn record_lines(
     Ok(lines)
 }
 
-// ---- a product's blanks
+// ---- the blanks of a product
 
 fn is_blank_of(lots: &[Lot], product: &Name, blank: u64) -> bool
     ensures { result ≡ is_lot_of product.now (lot_of lots.now blank) }
@@ -167,7 +167,7 @@ fn is_blank_of(lots: &[Lot], product: &Name, blank: u64) -> bool
     }
 }
 
-// The states of those of these sessions that are on a product's blanks.
+// Returns the states of the sessions whose blanks are in lots of `product`.
 fn blank_states(
     alloc: Global,
     facts: &FactLists,
@@ -204,8 +204,8 @@ fn count_lots(lots: &[Lot], product: &Name) -> u64
     lots.iter().filter(|lot| lot.product == *product).count() as u64
 }
 
-// How many blanks a product's lots have. A sum past 64 bits is reported as refused memory: sound
-// facts have none.
+// Returns the number of blanks in the lots of `product`. A sum that exceeds 64 bits returns
+// `Memory`. Sound facts have no such sum.
 fn sum_lots(lots: &[Lot], product: &Name) -> Result<u64, StoreFault>
     ensures value { IfOk result
         (λ total. total ≡ sum_by (λ (l : LotValue). l.count) (lots_for lots.now product.now)) }
@@ -222,7 +222,7 @@ fn sum_lots(lots: &[Lot], product: &Name) -> Result<u64, StoreFault>
     Ok(total)
 }
 
-/// How a product's blanks stand.
+/// Returns the counters of the blanks of `product`.
 #[tactic(auto, unfolding(job_facts::specs::Accounts::blank_totals, job_facts::specs::Accounts::blank_states))]
 pub(crate) fn blank_totals(
     alloc: Global,

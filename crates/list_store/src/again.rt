@@ -1,4 +1,4 @@
-//! Lists have nothing to close.
+//! Reopens the store. Nothing was closed, so it is returned unchanged.
 use crate::store::ListStore;
 use job_facts::{Reopen, StoreFault};
 use std::alloc::Global;

@@ -1,4 +1,4 @@
-//! Which blanks are charged.
+//! Finds out whether a blank is charged.
 ghost use Rattle.std.specs.Prelude.{◌≡◌, ◌==◌};
 ghost use Rattle.std.specs.List.{list_any};
 ghost use Rattle.job_facts.specs.Facts.{Session};

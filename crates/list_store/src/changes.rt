@@ -1,4 +1,4 @@
-//! Facts with one change more.
+//! Applies a change to the facts.
 ghost use Rattle.std.specs.Prelude.{◌≡◌, IfErr, Ok, OnErr, OnOk};
 ghost use Rattle.job_facts.specs.declared.store.StoreFault.TheVariants.{Memory};
 ghost use Rattle.job_facts.specs.Facts.{at_session, ended, worded};
@@ -9,7 +9,7 @@ use crate::lists::{FactLists, KeptBatch, KeptRecord, KeptSession, KnownProduct};
 use job_facts::{Change, StoreFault};
 use std::alloc::Global;
 
-/// Makes a change, or leaves the facts.
+/// Applies `change` to `facts`. After an error `facts` is unchanged.
 pub(crate) fn change_facts(
     alloc: Global,
     facts: &mut FactLists,
@@ -50,7 +50,8 @@ pub(crate) fn change_facts(
     Ok(())
 }
 
-// Adds a word to a session.
+// Adds the status word `sw` to the session with the number `session`. Does nothing if the session
+// doesn't exist.
 fn add_word(sessions: &mut [KeptSession], session: u64, sw: u16) -> Result<(), StoreFault>
     ensures ok { OnOk result (sessions.new ≡ at_session session (worded sw) sessions.old) }
     ensures err { OnErr result (sessions.new ≡ sessions.old) }
@@ -62,7 +63,7 @@ fn add_word(sessions: &mut [KeptSession], session: u64, sw: u16) -> Result<(), S
     Ok(())
 }
 
-// Ends a session.
+// Ends the session with the number `session`. Does nothing if the session doesn't exist.
 fn end(sessions: &mut [KeptSession], session: u64)
     ensures { sessions.new ≡ at_session session ended sessions.old }
 {

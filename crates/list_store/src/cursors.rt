@@ -1,4 +1,4 @@
-//! Where a card stands in a plan, and how its words leave its session.
+//! Finds the position of a card in its plan, and the effect of its status words.
 ghost use Rattle.std.specs.Prelude.{◌≡◌, ◌==◌, IfSome, length, slice_get};
 ghost use Rattle.store_data.specs.Cursor.{IsCursor, cursor_at};
 ghost use Rattle.store_data.specs.Sequence.{IsPlan, commands_of};
@@ -6,7 +6,8 @@ ghost use Rattle.job_facts.specs.States.{going, is_tolerant, last_stops};
 
 use store_data::{Class, Cursor, RecordPlan, class};
 
-/// The cursor at a command of the plan, or at its end.
+/// Returns the cursor after `count` commands of the plan. Returns `None` if the plan has fewer
+/// commands.
 pub(crate) fn cursor_at(plan: &RecordPlan<'_>, count: usize) -> Option<Cursor>
     ensures value { result ≡ cursor_at plan.now count }
     ensures ranged { IfSome result IsCursor }
@@ -21,7 +22,7 @@ pub(crate) fn cursor_at(plan: &RecordPlan<'_>, count: usize) -> Option<Cursor>
     Some(cursor)
 }
 
-/// Whether the plan has this many commands.
+/// Returns `true` if the plan has exactly `count` commands.
 pub(crate) fn ends_at(plan: &RecordPlan<'_>, count: usize) -> bool
     ensures { result ≡ (count == length (commands_of plan.now)) }
 {
@@ -31,7 +32,7 @@ pub(crate) fn ends_at(plan: &RecordPlan<'_>, count: usize) -> bool
     }
 }
 
-// Whether a command of the plan is the last of a tolerant segment.
+// Returns `true` if the command at index `place` is the last of a tolerant segment.
 fn is_tolerant(plan: &RecordPlan<'_>, place: usize) -> bool
     ensures { result ≡ is_tolerant (slice_get (commands_of plan.now) place) }
 {
@@ -47,7 +48,7 @@ fn is_tolerant(plan: &RecordPlan<'_>, place: usize) -> bool
     }
 }
 
-/// Whether the last of the words does not go.
+/// Returns `true` if the last status word spoils the session.
 pub(crate) fn last_stops(plan: &RecordPlan<'_>, words: &[u16]) -> bool
     ensures { result ≡ last_stops (commands_of plan.now) words.now }
 {
@@ -58,7 +59,7 @@ pub(crate) fn last_stops(plan: &RecordPlan<'_>, words: &[u16]) -> bool
     class(words[place], is_tolerant(plan, place)) == Class::Stop
 }
 
-/// How many of the words go.
+/// Returns the number of status words that let the session continue.
 pub(crate) fn going(plan: &RecordPlan<'_>, words: &[u16]) -> usize
     ensures { result ≡ going (commands_of plan.now) words.now }
 {

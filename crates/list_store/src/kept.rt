@@ -1,4 +1,4 @@
-//! Kept replies.
+//! Copies and finds kept replies.
 ghost use Rattle.std.specs.Prelude.{◌≡◌, IfOk, IfErr, option_map};
 ghost use Rattle.job_facts.specs.declared.store.StoreFault.TheVariants.{Memory};
 ghost use Rattle.job_facts.specs.Contents.{entry_of, reply_of_entry};
@@ -8,7 +8,7 @@ use job_facts::{KeptReply, StoreFault};
 use std::alloc::Global;
 use store_data::{Bytes, Name};
 
-/// The reply under a number, copied.
+/// Returns a copy of the reply that is kept for `client` under `number`.
 pub(crate) fn reply_of(
     alloc: Global,
     rows: &[KeptRow],
@@ -31,7 +31,7 @@ pub(crate) fn reply_of(
     Ok(None)
 }
 
-/// A row of copied bytes.
+/// Returns a kept reply with copies of the request bytes and the body.
 pub(crate) fn row(
     alloc: Global,
     client: &Name,

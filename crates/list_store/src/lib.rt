@@ -1,5 +1,5 @@
-//! A store of the facts and the kept replies in plain lists: the plain, slow program of what a
-//! store promises.
+//! A store in memory, of plain lists. It is a simple and slow implementation of `JobStore` for the
+//! drill and for tests.
 #![tactic(auto)]
 
 mod accounts;

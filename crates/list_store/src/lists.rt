@@ -1,4 +1,4 @@
-//! The facts as lists.
+//! The lists of the store, and their elements.
 ghost use Rattle.std.specs.Prelude.{◌≡◌, IfErr, IfOk, Ok, OnErr, OnOk};
 ghost use Rattle.store_data.specs.Sequence.{IsProduct};
 ghost use Rattle.job_facts.specs.Facts.{ended, no_facts, worded};
@@ -9,7 +9,7 @@ use std::alloc::{AllocError, Global};
 use std::marker::Model;
 use store_data::{Bytes, Name, Product};
 
-/// A product in its ranges.
+/// A product whose values are in range.
 #[derive(Drop)]
 pub(crate) struct KnownProduct {
     product: Product,
@@ -27,8 +27,8 @@ impl Model for KnownProduct {
 }
 
 impl KnownProduct {
-    /// A product in its ranges. One out of them is reported as refused memory: sound facts have
-    /// none.
+    /// Wraps `product`. A product out of range returns `Memory`. Sound facts contain no such
+    /// product.
     pub(crate) fn new(product: Product) -> Result<KnownProduct, StoreFault>
         ensures value { IfOk result (λ known. known ≡ product) }
         ensures there { IsProduct product → result ≡ Ok product }
@@ -49,7 +49,7 @@ impl KnownProduct {
     }
 }
 
-/// A batch file under its name, for a product.
+/// A batch, with the bytes of its file.
 #[derive(Drop)]
 pub(crate) struct KeptBatch {
     pub(crate) name: Name,
@@ -65,7 +65,7 @@ impl Model for KeptBatch {
     ghost view = { λ b. record { name = b.name; product = b.product; raw = b.raw } };
 }
 
-/// A card's session.
+/// The session of a card.
 #[derive(Drop)]
 pub(crate) struct KeptSession {
     pub(crate) machine: Name,
@@ -107,7 +107,7 @@ impl KeptSession {
     }
 }
 
-/// A record of a batch.
+/// The batch and the name of a record.
 #[derive(Drop)]
 pub(crate) struct KeptRecord {
     pub(crate) batch: Name,
@@ -122,7 +122,7 @@ impl Model for KeptRecord {
     ghost view = { λ r. record { batch = r.batch; rec = r.rec } };
 }
 
-/// The facts.
+/// The facts, as one list for each kind.
 #[derive(Drop)]
 pub(crate) struct FactLists {
     pub(crate) products: Vec<KnownProduct>,
@@ -153,7 +153,7 @@ impl Model for FactLists {
 }
 
 impl FactLists {
-    /// No facts.
+    /// Creates empty lists.
     pub(crate) fn new(alloc: Global) -> FactLists
         ensures { result ≡ no_facts }
     {
@@ -170,7 +170,7 @@ impl FactLists {
     }
 }
 
-/// A kept reply under its client's number.
+/// A kept reply, with its client, its request number and the request bytes.
 #[derive(Drop)]
 pub(crate) struct KeptRow {
     pub(crate) client: Name,
@@ -194,7 +194,7 @@ impl Model for KeptRow {
     } };
 }
 
-/// How far a client has released its numbers.
+/// The release mark of a client.
 #[derive(Drop)]
 pub(crate) struct KeptMark {
     pub(crate) client: Name,

@@ -1,4 +1,4 @@
-//! How far clients have released their numbers.
+//! Reads and sets release marks.
 ghost use Rattle.std.specs.Prelude.{◌≡◌, IfErr, OnErr, OnOk};
 ghost use Rattle.job_facts.specs.declared.store.StoreFault.TheVariants.{Memory};
 ghost use Rattle.job_facts.specs.Contents.{above, mark_of, with_mark};
@@ -7,7 +7,7 @@ use crate::lists::{KeptMark, KeptRow};
 use job_facts::StoreFault;
 use store_data::Name;
 
-/// The mark of a client; 0 where it has none.
+/// Returns the release mark of `client`, or 0 if it has released nothing.
 pub(crate) fn mark_of(marks: &[KeptMark], client: &Name) -> u64
     ensures { result ≡ mark_of marks.now client.now }
 {
@@ -19,7 +19,7 @@ pub(crate) fn mark_of(marks: &[KeptMark], client: &Name) -> u64
     0
 }
 
-/// Sets the mark of a client, or leaves the marks.
+/// Sets the release mark of `client` to `upto`. After an error the marks are unchanged.
 pub(crate) fn set_mark(
     marks: &mut Vec<KeptMark>,
     client: &Name,
@@ -40,7 +40,7 @@ pub(crate) fn set_mark(
     Ok(())
 }
 
-/// Drops what is kept under released numbers.
+/// Removes the kept replies whose numbers are released.
 pub(crate) fn drop_released(kept: &mut Vec<KeptRow>, marks: &[KeptMark])
     ensures { kept.new.items ≡ above marks.now kept.old.items }
 {

@@ -1,4 +1,4 @@
-//! What stands under a name.
+//! Finds products, lots and batches by name.
 ghost use Rattle.std.specs.Prelude.{◌≡◌, IfSome, option_copied};
 ghost use Rattle.store_data.specs.Sequence.{IsProduct};
 ghost use Rattle.job_facts.specs.States.{batch_named, lot_named, product_named};

@@ -1,4 +1,4 @@
-//! The rows of a batch, its records, and their plans.
+//! Reads batch files: the rows of a batch, its records, and their plans.
 ghost use Rattle.std.specs.Prelude.{◌≡◌, ◌≤◌, All, IfErr, IfOk, bytes_eq, length, map};
 ghost use Rattle.std.specs.List.{list_any};
 ghost use Rattle.store_data.specs.Groups.{first_appearances};
@@ -19,7 +19,8 @@ use std::alloc::{AllocError, Global};
 use std::marker::Model;
 use store_data::{Name, Product, RecordPlan, Row, plan_of_sound};
 
-/// The rows of a record that has a plan, with the product of its batch. A clause sees the plan.
+/// The rows of a record that has a plan, with the product of its batch. In contracts its value is
+/// this plan.
 #[derive(Drop)]
 pub(crate) struct RecordRows {
     product: Product,
@@ -45,7 +46,7 @@ impl RecordRows {
     }
 }
 
-// The rows of a batch file that is read under a product; one with a fault has none.
+// Returns the rows of a batch file, or no rows if it has a fault under `product`.
 #[tactic(auto, unfolding(store_data::specs::Groups::grouped, store_data::specs::RecordFaults::record_fault, store_data::specs::Faults::summaries_fault))]
 fn rows_under(alloc: Global, product: &Product, raw: &[u8]) -> Result<Vec<Row>, StoreFault>
     requires { IsProduct product.now }
@@ -62,7 +63,7 @@ fn rows_under(alloc: Global, product: &Product, raw: &[u8]) -> Result<Vec<Row>, 
     }
 }
 
-/// The batch of a name.
+/// Returns the batch with the name `name`.
 pub(crate) fn batch_row(facts: &FactLists, name: &Name) -> Option<BatchRow>
     ensures { result ≡ batch_row_of facts.now name.now }
 {
@@ -72,7 +73,7 @@ pub(crate) fn batch_row(facts: &FactLists, name: &Name) -> Option<BatchRow>
     })
 }
 
-/// How many rows and records the batch of a name has.
+/// Returns the numbers of rows and records of the batch `name`.
 #[tactic(auto, unfolding(job_facts::specs::States::rows_of, store_data::specs::Groups::grouped))]
 pub(crate) fn batch_size(
     alloc: Global,
@@ -99,7 +100,7 @@ pub(crate) fn batch_size(
     }
 }
 
-/// Whether the batch of a name has these bytes.
+/// Returns `true` if the batch `name` exists and has the bytes `raw`.
 pub(crate) fn batch_has(facts: &FactLists, name: &Name, raw: &[u8]) -> bool
     ensures { result ≡ batch_has facts.now name.now raw.now }
 {
@@ -109,7 +110,7 @@ pub(crate) fn batch_has(facts: &FactLists, name: &Name, raw: &[u8]) -> bool
     }
 }
 
-// The rows of one record.
+// Returns the rows of the record `rec`.
 fn rows_of_record(alloc: Global, rows: Vec<Row>, rec: &Name) -> Result<Vec<Row>, StoreFault>
     ensures value { IfOk result (λ kept. kept.items ≡ rows_of_record rows.items rec.now) }
     ensures cause { IfErr result (λ fault. fault ≡ Memory) }
@@ -123,7 +124,7 @@ fn rows_of_record(alloc: Global, rows: Vec<Row>, rec: &Name) -> Result<Vec<Row>,
     Ok(kept)
 }
 
-/// The rows of a record, if its batch and product are there.
+/// Returns the rows of the record `rec`, or `None` if its batch or product doesn't exist.
 #[tactic(auto, unfolding(job_facts::specs::States::plan_for, job_facts::specs::States::rows_of))]
 pub(crate) fn record_rows(
     alloc: Global,
@@ -145,7 +146,7 @@ pub(crate) fn record_rows(
     Ok(Some(RecordRows { product, rows }))
 }
 
-// The records of these rows, by first appearance.
+// Returns the names of the records, in the order of their first rows.
 fn names(alloc: Global, rows: &[Row]) -> Result<Vec<Name>, StoreFault>
     ensures value { IfOk result
         (λ names. names.items ≡ first_appearances (map (λ (row : RowValue). row.rec) rows.now)) }
@@ -160,14 +161,15 @@ fn names(alloc: Global, rows: &[Row]) -> Result<Vec<Name>, StoreFault>
     Ok(names)
 }
 
-/// Whether a name is among these.
+/// Returns `true` if `names` contains `name`.
 pub(crate) fn has_name(names: &[Name], name: &Name) -> bool
     ensures { result ≡ list_any (bytes_eq name.now) names.now }
 {
     names.iter().any(|other| *name == *other)
 }
 
-/// The records of the batch of a name, in file order.
+/// Returns the names of the records of `batch`, in file order. A batch that doesn't exist has no
+/// records.
 #[tactic(auto, unfolding(job_facts::specs::States::records_of, job_facts::specs::States::rows_of))]
 pub(crate) fn record_names(
     alloc: Global,

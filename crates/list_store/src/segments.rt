@@ -1,4 +1,4 @@
-//! The segments of a record's plan.
+//! Reads the segments of a record.
 ghost use Rattle.std.specs.Prelude.{◌≡◌, ◌≤◌, IfErr, IfOk, IfSome};
 ghost use Rattle.job_facts.specs.declared.rows.SegmentRow.{SegmentRow as SegmentRowValue};
 ghost use Rattle.job_facts.specs.declared.store.StoreFault.TheVariants.{Memory};
@@ -11,7 +11,7 @@ use job_facts::{SegmentRow, StoreFault};
 use std::alloc::Global;
 use store_data::{Aid, Name};
 
-/// A segment of a record, if the record has it.
+/// Returns a segment of the record `rec`, or `None` if the record doesn't have it.
 pub(crate) fn segment_row_of(
     alloc: Global,
     facts: &FactLists,

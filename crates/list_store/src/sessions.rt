@@ -1,4 +1,4 @@
-//! Sessions, and how they stand by their words.
+//! Finds sessions, and computes their states from their status words.
 ghost use Rattle.std.specs.Prelude.{◌≡◌, IfErr, IfOk, IfSome, option_copied};
 ghost use Rattle.std.specs.Prelude.{unwrap_or};
 ghost use Rattle.store_data.specs.Cursor.{IsCursor};
@@ -17,7 +17,7 @@ use job_facts::{SessionRow, SessionState, StoreFault};
 use std::alloc::{AllocError, Global};
 use store_data::{Cursor, Name, RecordPlan};
 
-/// The session of a number, from 1.
+/// Returns the session with the number `number`. Numbers start at 1.
 pub(crate) fn session_numbered(sessions: &[KeptSession], number: u64) -> Option<&KeptSession>
     ensures { option_copied result ≡ session_numbered sessions.now number }
 {
@@ -27,7 +27,7 @@ pub(crate) fn session_numbered(sessions: &[KeptSession], number: u64) -> Option<
     sessions.get((number - 1) as usize)
 }
 
-// The state of a session whose record has this plan.
+// Returns the state of a session. `plan` is the plan of its record.
 fn state_under(plan: &RecordPlan<'_>, session: &KeptSession) -> SessionState
     ensures { result ≡ state_with (commands_of plan.now) session.now }
 {
@@ -40,7 +40,7 @@ fn state_under(plan: &RecordPlan<'_>, session: &KeptSession) -> SessionState
     }
 }
 
-// Where the card of a session stands whose record has this plan.
+// Returns the cursor of a session. `plan` is the plan of its record.
 fn cursor_under(plan: &RecordPlan<'_>, session: &KeptSession) -> Cursor
     ensures value { result ≡ cursor_after plan.now session.now }
     ensures ranged { IsCursor result }
@@ -56,7 +56,7 @@ fn cursor_under(plan: &RecordPlan<'_>, session: &KeptSession) -> Cursor
     }
 }
 
-// The plan of a record's rows, or one without commands.
+// Returns the plan of a record, or a plan without commands if its batch or product doesn't exist.
 fn plan_or_none<'a>(
     alloc: Global,
     rows: &'a Option<RecordRows>,
@@ -69,7 +69,7 @@ fn plan_or_none<'a>(
     }
 }
 
-/// The state of a session.
+/// Returns the state of `session`.
 pub(crate) fn session_state(
     alloc: Global,
     facts: &FactLists,
@@ -83,7 +83,7 @@ pub(crate) fn session_state(
     Ok(state_under(&plan, session))
 }
 
-/// The session of a number, with what follows from its words.
+/// Returns the session with the number `number`, with its state and its cursor.
 #[tactic(auto, using(crate::proofs::SessionLemmas::state_under_plan, crate::proofs::SessionLemmas::cursor_under_plan))]
 pub(crate) fn session_row_of(
     alloc: Global,
@@ -110,7 +110,7 @@ pub(crate) fn session_row_of(
     }))
 }
 
-/// The number of a machine's running session.
+/// Returns the number of the running session of `machine`.
 #[tactic(auto, unfolding(job_facts::specs::States::running_session))]
 pub(crate) fn running_session(
     alloc: Global,

@@ -1,4 +1,4 @@
-//! How records stand.
+//! Computes the states of records.
 ghost use Rattle.std.specs.Prelude.{◌≡◌, ◌&&◌, IfErr, IfOk, count_by, filter};
 ghost use Rattle.std.specs.Prelude.{map};
 ghost use Rattle.std.specs.List.{list_any};
@@ -16,7 +16,7 @@ use job_facts::{RecordState, SessionState, StoreFault};
 use std::alloc::Global;
 use store_data::Name;
 
-/// The states of a record's sessions among these.
+/// Returns the states of the sessions of the record `rec`.
 pub(crate) fn states_among(
     alloc: Global,
     facts: &FactLists,
@@ -50,7 +50,7 @@ fn has_record(records: &[KeptRecord], batch: &Name, rec: &Name) -> bool
     records.iter().any(|record| is_record(record, batch, rec))
 }
 
-// How often a record stands among these.
+// Returns how often `records` contains the record `rec`.
 fn count_of(records: &[KeptRecord], batch: &Name, rec: &Name) -> u64
     ensures { result ≡ count_by (is_record batch.now rec.now) records.now }
 {
@@ -60,7 +60,7 @@ fn count_of(records: &[KeptRecord], batch: &Name, rec: &Name) -> u64
         .count() as u64
 }
 
-/// How many sessions stand so.
+/// Returns the number of sessions with the state `state`.
 pub(crate) fn count_sessions(states: &[SessionState], state: SessionState) -> u64
     ensures { result ≡ count_sessions states.now state }
 {
@@ -83,7 +83,7 @@ fn state_by(states: &[SessionState], withdrawn: bool, remakes: u64) -> RecordSta
     }
 }
 
-/// The state of a record.
+/// Returns the state of the record `rec`.
 #[tactic(auto, unfolding(job_facts::specs::States::record_state, job_facts::specs::States::states_of))]
 pub(crate) fn record_state(
     alloc: Global,
@@ -100,7 +100,7 @@ pub(crate) fn record_state(
     Ok(state_by(&states, withdrawn, remakes))
 }
 
-/// The state of a record, if the batch has it.
+/// Returns the state of the record `rec`, or `None` if the batch doesn't contain it.
 #[tactic(auto, unfolding(job_facts::specs::States::record_state_of))]
 pub(crate) fn record_state_of(
     alloc: Global,
@@ -119,7 +119,7 @@ pub(crate) fn record_state_of(
     }
 }
 
-/// The first waiting record of a batch, in file order.
+/// Returns the first waiting record of `batch`, in file order.
 #[tactic(auto, unfolding(job_facts::specs::States::first_waiting))]
 pub(crate) fn first_waiting(
     alloc: Global,
@@ -138,7 +138,7 @@ pub(crate) fn first_waiting(
     Ok(None)
 }
 
-/// Whether each record of a batch is good or withdrawn.
+/// Returns `true` if every record of `batch` is good or withdrawn.
 #[tactic(auto, unfolding(job_facts::specs::States::is_batch_finished))]
 pub(crate) fn is_batch_finished(
     alloc: Global,

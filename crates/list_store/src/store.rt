@@ -9,8 +9,8 @@ use job_facts::{
 use std::alloc::Global;
 use store_data::{Name, Product};
 
-/// The facts, the kept replies, the oldest first, and the marks of clients. It has no device, so
-/// that it only ever lacks memory.
+/// A store in memory: the facts, the kept replies (oldest first) and the release marks. It has no
+/// device, so the only possible fault is `Memory`.
 #[derive(Drop)]
 pub struct ListStore {
     alloc: Global,
@@ -23,7 +23,7 @@ impl ListStore {
     ghost use Rattle.job_facts.specs.Contents.{no_contents};
     ghost use Rattle.list_store.specs.Lists.{state};
 
-    /// An empty store. It takes no memory.
+    /// Creates an empty store. Allocates nothing.
     pub fn new(alloc: Global) -> ListStore
         ensures { (state result).holds no_contents }
     {
@@ -179,7 +179,7 @@ impl JobStore for ListStore {
     }
 }
 
-// Lists have no device that fails, and nothing to close.
+// The store has no device that can fail, and nothing to close.
 impl ServerStore for ListStore {
     ghost use Rattle.std.specs.Prelude.{⊤};
 

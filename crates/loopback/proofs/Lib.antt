@@ -1,1 +1,2 @@
-mod DrainLemmas
+mod ArrivedLemmas
+mod PlaceLemmas

@@ -1,5 +1,6 @@
+pub mod Arriving
 pub mod Asking
 pub mod Drains
 pub mod Faults
-pub mod Starts
+pub mod Rooms
 pub mod Waits

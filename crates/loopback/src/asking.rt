@@ -1,4 +1,4 @@
-//! A message sent, and its reply read.
+//! Sends a message and reads the response.
 ghost use Rattle.std.specs.Prelude.{IfOk, Result};
 ghost use Rattle.text_io.specs.Written.{Writes};
 ghost use Rattle.text_io.specs.declared.writing.WriteFailed.{WriteFailed};
@@ -8,11 +8,16 @@ use std::alloc::Global;
 use std::io::{Read, Write};
 use text_io::{ReadFault, read_within, write_text};
 
-/// The most bytes of a reply: one to a machine has far fewer.
+/// The maximum size of a response, in bytes. The responses to a driver are far smaller.
 const MOST_REPLY: u32 = 8_192;
 
-/// Sends a message whole, and reads then what comes, to its end. It is as nothing where a write
-/// fails, and where too much comes. Errors: a failed read; refused memory.
+/// Sends `message` and reads the whole response. Returns `None` if a write fails or the response is
+/// too long.
+///
+/// # Errors
+///
+/// - `Failed`: a read fails.
+/// - `Memory`: an allocation fails.
 pub(crate) fn send_and_read<P: Read + Write>(
     alloc: Global,
     peer: &mut P,

@@ -1,38 +1,100 @@
-//! What is read of a connection once its reply is written.
-ghost use Rattle.std.specs.Prelude.{◌≡◌};
-ghost use Rattle.loopback.specs.Drains.{Loses, most_drained};
+//! Reads and discards the remaining bytes of a connection after its response.
+ghost use Rattle.std.specs.Prelude.{◌≡◌, ◌+◌, ℕ, List, length};
+ghost use Rattle.std.specs.Io.KnownBytes.{Consumes};
+ghost use Rattle.loopback.specs.Drains.{most_drained};
 
-use http_messages::ByteSource;
+use crate::clock::is_late;
+use std::io::{ErrorKind, Read};
+use std::time::Instant;
 use text_io::MOST_INPUT;
 
-/// The most bytes that are dropped: a body of the most bytes, behind a head of the most.
+/// The maximum number of bytes that are discarded: the largest head and the largest body.
 const MOST_DRAINED: usize = MOST_INPUT as usize + 8_192;
 
-/// Reads what still comes and drops it, where this reply came before the whole message was read: a
-/// socket that is closed with unread bytes resets its connection, and the peer may lose the reply.
-/// Nothing is read after another reply, since a peer that keeps its end open would hold the server.
-pub(crate) fn drain<I: ByteSource>(incoming: &mut I, reply: &[u8])
-    ensures { Loses (I.brings incoming.old) (I.brings incoming.new) (most_drained reply.now) }
-{
-    let mut left = most_drained(reply);
-    let mut buf = [0; 8192];
-    while left > 0 {
-        let most = left.min(buf.len());
-        let count = incoming.bring(&mut buf[..most]);
-        if count == 0 {
-            return;
-        }
-        left -= count;
-    }
+/// A connection whose response was written before its message was read completely. Closing a socket
+/// with unread bytes resets the connection, and the peer may lose the response. The socket
+/// therefore remains open for a while, and its bytes are discarded.
+#[derive(Drop)]
+pub(crate) struct Drain<S: Read + Drop> {
+    pub stream: S,
+    pub token: usize,
+    left: usize,
+    begun: Instant,
+    last: Instant,
 }
 
-// How many bytes are dropped after a reply that begins so, at most.
-fn most_drained(reply: &[u8]) -> usize
-    ensures { result ≡ most_drained reply.now }
-{
-    let status: &[u8] = reply.get(9..12).unwrap_or(&[]);
-    match status {
-        b"400" | b"413" | b"431" => MOST_DRAINED,
-        _ => 0,
+// The result of one read.
+#[derive(Clone, Copy)]
+enum Dropped {
+    /// More bytes may be available.
+    Some,
+    /// No bytes are available now.
+    Nothing,
+    /// The drain has ended.
+    All,
+}
+
+impl<S: Read + Drop> Drain<S> {
+    ghost use Rattle.std.specs.Prelude.{◌≡◌, ◌+◌, ℕ, List, length};
+    ghost use Rattle.std.specs.Io.KnownBytes.{Consumes};
+    ghost use Rattle.loopback.specs.Drains.{most_drained};
+
+    /// Starts to drain a connection whose response was written at `now`.
+    pub(crate) fn new(stream: S, token: usize, now: Instant) -> Drain<S>
+        ensures { result.left ≡ most_drained }
+    {
+        Drain {
+            stream,
+            token,
+            left: MOST_DRAINED,
+            begun: now,
+            last: now,
+        }
+    }
+
+    // Reads once, and discards the bytes.
+    fn drop_once(&mut self, buf: &mut [u8], now: Instant) -> Dropped
+        ensures { (more : List ℕ)
+            × Consumes (S.remaining self.old.stream) (S.remaining self.new.stream) more
+            × (length more + self.new.left ≡ self.old.left) }
+    {
+        let most = self.left.min(buf.len());
+        if most == 0 {
+            return Dropped::All;
+        }
+        match self.stream.read(&mut buf[..most]) {
+            Ok(0) => Dropped::All,
+            Ok(count) => {
+                self.left -= count;
+                self.last = now;
+                Dropped::Some
+            }
+            Err(error) => match error.kind() {
+                ErrorKind::WouldBlock => Dropped::Nothing,
+                ErrorKind::Interrupted => Dropped::Some,
+                _ => Dropped::All,
+            },
+        }
+    }
+
+    /// Discards the available bytes. Returns `true` if the drain has ended.
+    pub(crate) fn drop_there(&mut self, buf: &mut [u8], now: Instant) -> bool
+        ensures { (more : List ℕ)
+            × Consumes (S.remaining self.old.stream) (S.remaining self.new.stream) more
+            × (length more + self.new.left ≡ self.old.left) }
+    {
+        for _ in 0..u64::MAX {
+            match self.drop_once(buf, now) {
+                Dropped::Some => {}
+                Dropped::Nothing => return false,
+                Dropped::All => return true,
+            }
+        }
+        true
+    }
+
+    /// Returns `true` if the drain took too long.
+    pub(crate) fn is_late(&self, now: Instant) -> bool {
+        is_late(self.begun, self.last, now)
     }
 }

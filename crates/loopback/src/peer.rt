@@ -1,94 +1,115 @@
-//! The two ends of a connection at its server: what brings a message, and what takes the reply.
-ghost use Rattle.std.specs.Prelude.{◌≡◌, ◌++◌, MatchResult, [], take};
-ghost use Rattle.std.specs.Io.{WritesAtMost};
-ghost use Rattle.loopback.specs.Drains.{start_of_reply};
-ghost use Rattle.loopback.specs.Starts.{kept_of};
+//! The server's side of a connection: a reader of the message and a writer of the response.
+ghost use Rattle.std.specs.Prelude.{◌≡◌, ◌≤◌, ◌++◌, None, length};
+ghost use Rattle.loopback.specs.Arriving.{IsPiece, bytes_of, is_complete};
 
+use crate::arrived::{Arrived, Stop};
 use crate::clock::Side;
-use crate::start::ReplyStart;
+use crate::front::Front;
 use crate::timed::TimedStream;
-use http_messages::ByteSource;
+use http_messages::{ByteSource, Progress};
 use std::io::{self, Write};
 use std::net::Net;
-use std::time::{Clock, Instant};
+use std::time::Clock;
 
-/// Brings a peer's bytes. One that is silent for 5 s, or whose message isn't whole within 10 s, is
-/// at its end, as one is whose read fails.
+/// A reader of the bytes that were received from a peer before its connection was served.
 #[derive(Drop)]
-pub struct PeerReader<'a, R: Net + Clock> {
-    stream: TimedStream<'a, R>,
+pub struct PeerReader {
+    arrived: Arrived,
+    at: usize,
+    ghost within: { at ≤ length (arrived.front.bytes.items ++ arrived.rest.items) },
 }
 
-impl<'a, R: Net + Clock> PeerReader<'a, R> {
-    pub(crate) fn new(rt: &'a R, stream: R::Stream, begun: Instant) -> PeerReader<'a, R>
-        ensures side { result.stream.side ≡ Side.Server }
-        ensures begun { result.stream.begun ≡ Some begun }
+impl PeerReader {
+    ghost use Rattle.std.specs.Prelude.{◌≡◌, ◌≤◌, ◌++◌, Bool, length};
+    ghost use Rattle.loopback.specs.Arriving.{IsPiece, bytes_of, is_complete};
+
+    pub(crate) fn new(arrived: Arrived) -> PeerReader
+        ensures arrived { result.arrived ≡ arrived }
+        ensures first { result.at ≡ 0 }
     {
-        PeerReader {
-            stream: TimedStream::new(rt, stream, Side::Server, Some(begun)),
+        PeerReader { arrived, at: 0 }
+    }
+
+    /// Returns `true` if the message was read completely.
+    pub(crate) fn is_complete(&self) -> bool
+        ensures { result ≡ is_complete self.now.arrived }
+    {
+        match self.arrived.progress {
+            Progress::Message => true,
+            Progress::Head | Progress::Body { .. } | Progress::Refused => false,
+        }
+    }
+
+    /// Returns the array of the first bytes, for use by another connection.
+    pub(crate) fn into_front(self) -> Front {
+        self.arrived.front
+    }
+
+    // Returns the bytes from `at` to the end of the array, or of the buffer if `at` is in it.
+    fn piece(&self) -> &[u8]
+        ensures { IsPiece (bytes_of self.now.arrived) self.now.at result.now }
+    {
+        let front = self.arrived.front.bytes.as_slice();
+        if self.at < front.len() {
+            &front[self.at..]
+        } else {
+            &self.arrived.rest[self.at - front.len()..]
         }
     }
 }
 
-impl<R: Net + Clock> ByteSource for PeerReader<'_, R> {
-    ghost use Rattle.std.specs.Prelude.{None};
+impl ByteSource for PeerReader {
+    ghost use Rattle.std.specs.Prelude.{Some, drop};
+    ghost use Rattle.loopback.specs.Arriving.{bytes_of};
 
-    ghost brings = { λ _. None };
+    ghost brings = { λ r. Some (drop r.at (bytes_of r.arrived)) };
 
     fn bring(&mut self, buf: &mut [u8]) -> usize {
-        self.stream.read_in_time(buf).unwrap_or(0)
+        // The number of received bytes is a `usize`, so `at + count` also fits into one.
+        let _len = self.arrived.len();
+        let piece = self.piece();
+        let count = piece.len().min(buf.len());
+        buf[..count].copy_from_slice(&piece[..count]);
+        self.at += count;
+        count
+    }
+
+    fn is_cut(&self) -> bool {
+        matches!(self.arrived.stop, Some(Stop::Memory))
     }
 }
 
-/// Takes a reply's bytes to a peer, and keeps the first of them. A write fails that waits for 5 s,
-/// and so does one that begins 10 s after the first.
+/// A writer of the response to a peer. A write fails if it waits for 5 s, or if 10 s have passed
+/// since the first write started.
 #[derive(Drop)]
 pub struct PeerWriter<'a, R: Net + Clock> {
     stream: TimedStream<'a, R>,
-    start: ReplyStart,
 }
 
 impl<'a, R: Net + Clock> PeerWriter<'a, R> {
     pub(crate) fn new(rt: &'a R, stream: R::Stream) -> PeerWriter<'a, R>
         ensures side { result.stream.side ≡ Side.Server }
         ensures begun { result.stream.begun ≡ None }
-        ensures start { kept_of result.start ≡ [] }
     {
         PeerWriter {
             stream: TimedStream::new(rt, stream, Side::Server, None),
-            start: ReplyStart::new(),
         }
     }
 
-    /// Shows the peer that nothing more comes.
+    /// Ends the sending direction of the connection, so that the peer sees the end of the response.
     pub(crate) fn end(&self) {
         self.stream.end();
     }
 
-    /// How the reply begins.
-    pub(crate) fn start(&self) -> &[u8]
-        ensures { result.now ≡ kept_of self.now.start }
-    {
-        self.start.as_slice()
-    }
-
-    // Writes, and keeps how the reply begins.
-    fn write_and_keep(&mut self, buf: &[u8]) -> io::Result<usize>
-        ensures count { WritesAtMost result buf.now }
-        ensures start { MatchResult result
-            (λ n. kept_of self.new.start
-            ≡ start_of_reply (kept_of self.old.start ++ take n buf.now))
-            (λ _. kept_of self.new.start ≡ kept_of self.old.start) }
-    {
-        let count = self.stream.write_in_time(buf)?;
-        self.start.keep(&buf[..count]);
-        Ok(count)
+    /// Returns the stream.
+    pub(crate) fn into_stream(self) -> R::Stream {
+        self.stream.into_stream()
     }
 }
 
 impl<R: Net + Clock> Write for PeerWriter<'_, R> {
     fn write(&mut self, buf: &[u8]) -> io::Result<usize> {
-        self.write_and_keep(buf)
+        self.stream.write_in_time(buf)
     }
 
     fn flush(&mut self) -> io::Result<()> {

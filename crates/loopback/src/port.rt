@@ -1,5 +1,6 @@
-//! Messages to a port of this machine.
+//! Sends messages to a port of 127.0.0.1.
 ghost use Rattle.std.specs.Prelude.{◌≡◌, ◌≢◌, ◌+◌, ◌≤◌, [], IfOk, OnOk, min};
+ghost use Rattle.loopback.specs.Asking.{came_of};
 ghost use Rattle.loopback.specs.Waits.{paused};
 
 use crate::asking::send_and_read;
@@ -12,7 +13,8 @@ use std::net::{Ipv4Addr, Net, SocketAddr, SocketAddrV4};
 use std::time::{Clock, Instant};
 use text_io::ReadFault;
 
-/// A port of 127.0.0.1, the message that was sent to it last, and how often in a row it was.
+/// A port of 127.0.0.1, with the last message that was sent to it and the number of times that this
+/// message was sent again.
 #[derive(Drop)]
 pub struct Port<'a, R: Net + Clock> {
     rt: &'a R,
@@ -23,12 +25,12 @@ pub struct Port<'a, R: Net + Clock> {
 }
 
 impl<'a, R: Net + Clock> Port<'a, R> {
-    /// A port to which nothing was sent yet.
+    /// Creates a port to which no message was sent yet.
     pub fn new(rt: &'a R, alloc: Global, port: u16) -> Port<'a, R>
         ensures port { result.port ≡ port }
         ensures none { result.last.items ≡ [] }
         ensures first { result.sent ≡ 0 }
-        // Ten tries of a message last a minute at least.
+        // Ten tries of a message take at least a minute.
         ensures minute { 60_000_000_000 ≤ paused 9 }
     {
         Port {
@@ -40,7 +42,8 @@ impl<'a, R: Net + Clock> Port<'a, R> {
         }
     }
 
-    // A message that comes again waits, each time for longer.
+    // Pauses if `message` is the same as the last message. The pause is longer every time, up to
+    // 16 s. Only tests show how long it sleeps.
     fn wait_for(&mut self, message: &[u8]) -> Result<(), AllocError>
         ensures last { OnOk result (self.new.last.items ≡ message.now) }
         ensures first { self.old.last.items ≢ message.now → OnOk result (self.new.sent ≡ 0) }
@@ -58,7 +61,8 @@ impl<'a, R: Net + Clock> Port<'a, R> {
         Ok(())
     }
 
-    // A connection to the port, with a machine's limits on its time.
+    // Opens a connection to the port, with the time limits of a driver. Only tests show that its
+    // reads and writes wait at most 60 s.
     fn connect(&self) -> io::Result<TimedStream<'a, R>>
         ensures { IfOk result (λ peer. peer.side ≡ Side.Machine) }
     {
@@ -68,15 +72,26 @@ impl<'a, R: Net + Clock> Port<'a, R> {
         Ok(TimedStream::new(self.rt, stream, Side::Machine, Some(begun)))
     }
 
-    // Sends a message whole, and reads what comes back to its end.
+    // Opens a connection, sends `message`, and reads the whole response.
     fn ask(&self, message: &[u8]) -> Result<Option<Vec<u8>>, ReadFault> {
         let mut peer = self.connect()?;
         send_and_read(self.alloc, &mut peer, message)
     }
 }
 
-/// A connection that can't be had, a write or a read that fails, and a text too long for a reply
-/// are as nothing that came.
+// Returns the result of an exchange: `None` if it failed, or an error if an allocation failed.
+fn came_of(asked: Result<Option<Vec<u8>>, ReadFault>) -> Result<Option<Vec<u8>>, AllocError>
+    ensures { result ≡ came_of asked }
+{
+    match asked {
+        Ok(came) => Ok(came),
+        Err(ReadFault::Failed) => Ok(None),
+        Err(ReadFault::Memory) => Err(AllocError),
+    }
+}
+
+/// An exchange returns `None` if the connection can't be opened, a write or a read fails, or the
+/// response is too long.
 impl<R: Net + Clock> Exchange for Port<'_, R> {
     ghost use Rattle.std.specs.Prelude.{None};
 
@@ -84,10 +99,6 @@ impl<R: Net + Clock> Exchange for Port<'_, R> {
 
     fn exchange(&mut self, message: &[u8]) -> Result<Option<Vec<u8>>, AllocError> {
         self.wait_for(message)?;
-        match self.ask(message) {
-            Ok(came) => Ok(came),
-            Err(ReadFault::Failed) => Ok(None),
-            Err(ReadFault::Memory) => Err(AllocError),
-        }
+        came_of(self.ask(message))
     }
 }

@@ -1,5 +1,5 @@
-//! A connection's stream, whose reads and writes end in time.
-ghost use Rattle.std.specs.Prelude.{◌≡◌, ◌≢◌, IfErr, IfSome};
+//! A stream with time limits for its reads and writes.
+ghost use Rattle.std.specs.Prelude.{◌≡◌, ◌≢◌, IfErr, IfOk, IfSome, IsSome};
 ghost use Rattle.std.specs.Io.{ReadsAtMost, WritesAtMost};
 ghost use Rattle.std.specs.IoError.{error_kind};
 
@@ -8,9 +8,12 @@ use std::io::{self, ErrorKind, Read, Write};
 use std::net::{Net, OpenStream, Shutdown};
 use std::time::{Clock, Duration, Instant};
 
-/// A connection's stream at one side, and when what goes over it was begun: if not yet, then at the
-/// first read or write. A read or a write fails that waits for longer than one may there, or that
-/// would end later than the whole may.
+/// A connection's stream on the side `side`. A read or a write fails if it waits longer than a
+/// single one may on this side, or if the time for the whole message or response is over. That time
+/// starts at `begun`, or at the first read or write if `begun` is `None`.
+///
+/// Only tests show that the system gets the time that `wait` returns, and that nothing is read or
+/// written if no time is left.
 #[derive(Drop)]
 pub(crate) struct TimedStream<'a, R: Net + Clock> {
     rt: &'a R,
@@ -37,13 +40,20 @@ impl<'a, R: Net + Clock> TimedStream<'a, R> {
         }
     }
 
-    /// Shows the peer that nothing more comes.
+    /// Ends the sending direction, so that the peer sees the end of the bytes.
     pub(crate) fn end(&self) {
         let _ = self.stream.shutdown(Shutdown::Write);
     }
 
-    // How long a read or a write waits that begins now.
+    /// Returns the stream.
+    pub(crate) fn into_stream(self) -> R::Stream {
+        self.stream
+    }
+
+    // Returns how long a read or a write that starts now may wait. Starts the time limit, unless it
+    // was started before.
     fn wait(&mut self) -> io::Result<Duration>
+        ensures set { IfOk result (λ _. IsSome self.new.begun) }
         ensures begun { IfSome self.old.begun (λ begun. self.new.begun ≡ Some begun) }
         ensures side { self.new.side ≡ self.old.side }
     {
@@ -56,7 +66,7 @@ impl<'a, R: Net + Clock> TimedStream<'a, R> {
         wait_at(self.side, begun, now)
     }
 
-    // Reads once.
+    // Reads once, with the time that is left.
     fn read_once(&mut self, buf: &mut [u8]) -> io::Result<usize>
         ensures count { ReadsAtMost result buf.new }
         ensures begun { IfSome self.old.begun (λ begun. self.new.begun ≡ Some begun) }
@@ -67,7 +77,7 @@ impl<'a, R: Net + Clock> TimedStream<'a, R> {
         self.stream.read(buf)
     }
 
-    /// Reads, and again where a signal interrupts it.
+    /// Reads within the time limits. A read that a signal interrupts is repeated.
     pub(crate) fn read_in_time(&mut self, buf: &mut [u8]) -> io::Result<usize>
         ensures count { ReadsAtMost result buf.new }
         ensures begun { IfSome self.old.begun (λ begun. self.new.begun ≡ Some begun) }
@@ -83,7 +93,7 @@ impl<'a, R: Net + Clock> TimedStream<'a, R> {
         Err(ErrorKind::TimedOut.into())
     }
 
-    // Writes once.
+    // Writes once, with the time that is left.
     fn write_once(&mut self, buf: &[u8]) -> io::Result<usize>
         ensures count { WritesAtMost result buf.now }
         ensures begun { IfSome self.old.begun (λ begun. self.new.begun ≡ Some begun) }
@@ -94,7 +104,7 @@ impl<'a, R: Net + Clock> TimedStream<'a, R> {
         self.stream.write(buf)
     }
 
-    /// Writes, and again where a signal interrupts it.
+    /// Writes within the time limits. A write that a signal interrupts is repeated.
     pub(crate) fn write_in_time(&mut self, buf: &[u8]) -> io::Result<usize>
         ensures count { WritesAtMost result buf.now }
         ensures begun { IfSome self.old.begun (λ begun. self.new.begun ≡ Some begun) }

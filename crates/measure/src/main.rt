@@ -1,5 +1,5 @@
-//! The program `measure`: calls the record check, the check of a batch or the server on standard
-//! input, so that each is timed and weighed alone.
+//! The program `measure` of the benchmarks: runs the record check, the batch check or the server on
+//! standard input, so that the time and memory of each can be measured separately.
 #![tactic(auto)]
 
 ghost use Rattle.std.specs.Prelude.{◌≡◌, ◌↔◌, Some, codes, filter, length};
@@ -17,28 +17,28 @@ use store_data::{Name, Product};
 use text_io::MOST_INPUT;
 use tlv_check::is_record;
 
-/// The room that is asked for at once, in bytes: one more than a batch may have, so that reading a
-/// batch moves nothing.
+/// The capacity of the input buffer, in bytes: one more than a batch may have, so that the buffer
+/// never grows and moves.
 const ROOM: usize = MOST_INPUT as usize + 1;
 
-/// How many bytes of a connection come at once, at most.
+/// The maximum number of bytes that a connection brings at once.
 const MOST_PIECE: usize = 65_536;
 
-/// How many bytes a record has that is to be checked.
+/// The size of a record that is checked, in bytes.
 const PIECE: usize = 16_000;
 
 const USAGE: &str = "usage: measure raw|records|batch|load <input";
 
-/// What is done with the bytes of standard input.
+/// The work on the bytes of standard input.
 #[derive(Clone, Copy)]
 enum Work {
-    /// They are counted.
+    /// Counts the bytes.
     Raw,
-    /// They are cut into pieces, and the records among those are counted.
+    /// Cuts the bytes into pieces and counts the EMV records among them.
     Records,
-    /// They are checked as a batch.
+    /// Checks the bytes as a batch file.
     Batch,
-    /// They are messages with a byte 0 between them, and are served.
+    /// Serves messages, which are separated by a byte 0.
     Load,
 }
 
@@ -57,7 +57,7 @@ fn main(rt: HostRuntime) -> ExitCode {
     }
 }
 
-// The work that the words of the process ask for, if they are one word and it names some.
+// Returns the work that the only argument of the process names.
 fn asked(rt: &HostRuntime) -> io::Result<Option<Work>> {
     let words = match env::args(rt) {
         Ok(words) => words.collect::<Vec<String>>(rt.alloc())?,
@@ -70,7 +70,7 @@ fn asked(rt: &HostRuntime) -> io::Result<Option<Work>> {
     }
 }
 
-// The work of this name.
+// Returns the work with the name `word`.
 fn work_of(word: &str) -> Option<Work>
     ensures raw { (result ≡ Some Work.Raw) ↔ (word.now ≡ codes "raw") }
     ensures records { (result ≡ Some Work.Records) ↔ (word.now ≡ codes "records") }
@@ -102,7 +102,7 @@ fn input(rt: &HostRuntime) -> io::Result<Vec<u8>> {
     Ok(raw)
 }
 
-// How many of the pieces of 16,000 bytes, the last of which may be shorter, are records.
+// Returns how many of the pieces of 16,000 bytes are EMV records. The last piece may be shorter.
 fn accepted(raw: &[u8]) -> usize
     ensures { result ≡ length (filter is_record_of (pieces_of PIECE raw.now)) }
 {
@@ -119,7 +119,8 @@ fn print_totals(rt: &HostRuntime, raw: &[u8]) -> io::Result<()> {
     }
 }
 
-// Serves messages in turn, each on a connection of its own, over a store that begins empty.
+// Serves each message on its own connection, one after another, over a store that is empty at
+// first.
 fn print_served(rt: &HostRuntime, raw: &[u8]) -> io::Result<()> {
     let alloc = rt.alloc();
     let mut inputs = Vec::new(alloc);
@@ -140,7 +141,7 @@ fn print_served(rt: &HostRuntime, raw: &[u8]) -> io::Result<()> {
     println!(rt; "served {} accepted {accepted}", replies.len())
 }
 
-// The product that a batch is checked for.
+// Returns the product that a batch is checked for.
 fn product() -> Product
     ensures { IsProduct result }
 {

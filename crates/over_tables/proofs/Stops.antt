@@ -1,4 +1,4 @@
--- What an open finds where a server over tables stops at an arrival.
+-- Lemma: an open after a crash of a server during an arrival.
 use Rattle.std.proofs.Common.{[], ◌∷◌}
 use Rattle.sqlite.specs.Store.{Ghosts}
 use Rattle.sqlite.specs.Tree.{Trees}

@@ -1,4 +1,4 @@
--- From a connection that is opened to its store, or to why it has none.
+-- Lemmas: from an opened connection to its store, or to the reason why it isn't opened.
 use Rattle.std.proofs.Common.{◌≡◌, ◌≢◌, ◌⊎◌, Option, IsTrue, inl, inr, refl, sym, subst, ◌∙◌, arith}
 use Rattle.sqlite.specs.Effect.{Database}
 use Rattle.sqlite.specs.State as sqlite
@@ -19,7 +19,7 @@ use Rattle.over_tables.specs.declared.fault.FileFault.{FileFault}
 use Rattle.over_tables.specs.declared.opening.Wanted.{Wanted}
 use Rattle.over_tables.specs.declared.opening.Wanted.TheVariants.{Any, Ours}
 
--- it begins in an empty database alone
+-- a new store is created only in an empty database
 pub empty : (wanted : Wanted) (db : Database) → Begins wanted db → db.schema ≡ no_schema
 empty Any db begins = begins
 empty Ours db begins = absurd begins
@@ -50,7 +50,7 @@ kept_then a b c one two = record {
   committed_is = λ live. two.committed_is live ∙ one.committed_is (two.was_open live);
 }
 
--- it was refused between `old` and `mid` by one fault, and its cause was looked for up to `new`
+-- the database was refused between `old` and `mid`, and the cause was found between `mid` and `new`
 module _ (wanted : Wanted) (old mid new : sqlite.State) (fault : FileFault) (WasOther WasDamaged : Type 0)
     (not_ours : IsNotOurs fault → WasOther) (damaged : IsDamaged fault → WasDamaged)
     (why : HasCleanDisk new → Explains mid.now fault) (kept : HasCleanDisk new → IsKept mid new) (looked : Survives mid new (λ _. ⊥)) where

@@ -1,4 +1,4 @@
--- The words by which people read why a file is not ours (this project's profile).
+-- The words for the causes of refusal 81, in messages and event lines (this project's profile).
 use Rattle.std.specs.Prelude.{ℕ, List, codes, Option, None, Some}
 use Rattle.file_causes.specs.Words as tables
 use Rattle.over_tables.specs.declared.cause.Cause.{Cause}
@@ -19,12 +19,12 @@ word_of CannotOpen = codes "cannot-open"
 word_of (DamagedWal commits) = codes "damaged-wal"
 word_of (Tables difference) = tables.word_of difference
 
--- the name of the table, the index or the view that differs
+-- the name of the table, index or view that differs
 abbrev pub name_in : Cause → Option (List ℕ)
 name_in (Tables difference) = tables.name_in difference
 name_in _ = None
 
--- how many durable commits a damaged WAL still has behind the damage
+-- the number of durable commits after the damage of a WAL
 abbrev pub commits_in : Cause → Option ℕ
 commits_in (DamagedWal commits) = Some commits
 commits_in _ = None

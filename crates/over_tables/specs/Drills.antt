@@ -12,7 +12,8 @@ use Rattle.schema.specs.declared.store.SqlStore.{SqlStore}
 use Rattle.drill.specs.declared.stop.DrillStop.{DrillStop}
 use Rattle.drill.specs.Ends.{DrillsOver, unopened}
 
--- no store could be made, or one that begins empty does the lines
+-- No store could be created and nothing is written, or a store that is empty at first runs the
+-- script.
 abbrev pub DrillEnds : Option (List ℕ) → Option (List ℕ) → Option (List ℕ) → Result (Unit {0}) DrillStop → Type 0
 DrillEnds known before after result =
     ((fault : StoreFault) × (result ≡ Err (unopened fault)) × Keeps before after)

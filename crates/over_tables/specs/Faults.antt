@@ -1,5 +1,4 @@
--- What is reported of a fault of a store, or of a read, for why a file is not taken (this project's
--- profile).
+-- The faults that are reported for a database file that isn't opened (this project's profile).
 use Rattle.std.specs.Prelude.{Option, None, Some, Result, Ok, Err}
 use Rattle.sqlite.specs.declared.error.Error.{Error}
 use Rattle.sqlite.specs.declared.error.Error.TheVariants.{SqliteFailure}
@@ -17,18 +16,21 @@ of_store store.Memory = Memory
 of_store store.Device = Storage
 of_store store.Full = Storage
 
--- once its tables were seen, nothing else than memory and the device is reported of it
+-- the fault for an error after the tables were read successfully: out of memory, or a fault of the
+-- device
 abbrev pub of_later : Error → FileFault
 of_later (SqliteFailure code.OutOfMemory) = Memory
 of_later _ = Storage
 
--- tables that were not ours differ so now, or the device gives others
+-- the fault for tables that were refused: their difference, or a fault of the device if they don't
+-- differ now
 abbrev pub of_difference : Result (Option Difference) Error → FileFault
 of_difference (Ok (Some difference)) = NotOurs (Tables difference)
 of_difference (Ok None) = Storage
 of_difference (Err error) = of_later error
 
--- rows that were not those of sound contents are damaged so now, or the device gives others
+-- the fault for rows that were refused: their damage, or a fault of the device if they aren't
+-- damaged now
 abbrev pub of_damage : Result (Option Damage) Error → FileFault
 of_damage (Ok (Some damage)) = Damaged damage
 of_damage (Ok None) = Storage

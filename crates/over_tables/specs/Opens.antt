@@ -1,4 +1,4 @@
--- When a new store begins, and what a store is opened with (this project's profile).
+-- When a new store is created, and the contents of an opened store (this project's profile).
 use Rattle.std.specs.Prelude.{◌≡◌, ◌⊎◌}
 use Rattle.sqlite.specs.Effect.{Database}
 use Rattle.job_facts.specs.Contents.{AreSound, Contents, no_contents}
@@ -11,20 +11,22 @@ use Rattle.table_reads.specs.Holding.{HoldsRows}
 use Rattle.over_tables.specs.declared.opening.Wanted.{Wanted}
 use Rattle.over_tables.specs.declared.opening.Wanted.TheVariants.{Any, Ours}
 
--- the database is empty, and one that is may be had
+-- The database is empty, and `wanted` allows that.
 abbrev pub Begins : Wanted → Database → Type 0
 Begins Any db = db.schema ≡ no_schema
 Begins Ours db = ⊥
 
--- sound contents whose rows stand in our tables, of some version
+-- The contents `c` are sound, and the database contains their rows in the tables of some schema
+-- version.
 abbrev pub StandsIn : Database → Contents → Type 0
 StandsIn db c = AreSound c × ((v : Version) × HoldsRows v (image c) db)
 
--- what a store over it is opened with: nothing where it begins, and else what stands there
+-- A store over the database is opened with the contents `c`: empty contents for a new store,
+-- otherwise contents whose rows the database contains.
 abbrev pub IsOpenedWith : Wanted → Database → Contents → Type 0
 IsOpenedWith wanted db c = (Begins wanted db × (c ≡ no_contents)) ⊎ ((¬ Begins wanted db) × StandsIn db c)
 
--- the store is opened with these contents
+-- There are such contents, and the store is opened with them.
 pub record IsOpened (wanted : Wanted) (db : Database) (store : State) : Type 0 where
   pub some : (c : Contents) × IsOpenedWith wanted db c
   pub opens : (c : Contents) → IsOpenedWith wanted db c → OpensWith store c

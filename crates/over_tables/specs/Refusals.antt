@@ -1,4 +1,4 @@
--- What the fault says of a database that is not taken.
+-- The meaning of a fault for a database that isn't opened.
 use Rattle.std.specs.Prelude.{◌⊎◌, IsTrue, Option}
 use Rattle.sqlite.specs.Effect.{Database}
 use Rattle.sqlite.specs.State.{HasCleanDisk, State}
@@ -17,30 +17,32 @@ use Rattle.over_tables.specs.declared.cause.Cause.TheVariants.{Tables}
 use Rattle.over_tables.specs.declared.fault.FileFault.{FileFault}
 use Rattle.over_tables.specs.declared.fault.FileFault.TheVariants.{NotOurs, Damaged, Storage, Memory}
 
--- refusal 81
+-- The fault is refusal 81.
 abbrev pub IsNotOurs : FileFault → Type 0
 IsNotOurs (NotOurs cause) = Unit {0}
 IsNotOurs _ = ⊥
 
--- refusal 82
+-- The fault is refusal 82.
 abbrev pub IsDamaged : FileFault → Type 0
 IsDamaged (Damaged damage) = Unit {0}
 IsDamaged _ = ⊥
 
--- a database that was opened is not ours by its tables alone
+-- The cause is a difference of the tables, which is the only possible cause of refusal 81 after
+-- SQLite has opened the database.
 abbrev pub ExplainsTables : Database → Cause → Type 0
 ExplainsTables db (Tables difference) = SaysHow db difference
 ExplainsTables db _ = ⊥
 
--- of the two refusals it says the cause; the other faults say nothing of the database
+-- If the fault is a refusal, its cause is correct for the database. Other faults state nothing
+-- about the database.
 abbrev pub Explains : Database → FileFault → Type 0
 Explains db (NotOurs cause) = ExplainsTables db cause
 Explains db (Damaged damage) = SaysWhat db damage
 Explains db Storage = Unit {0}
 Explains db Memory = Unit {0}
 
--- A database is not taken, for this fault. It stays as it was, and a crash leaves what it could
--- leave before, or what a store over it would have been opened with.
+-- The database isn't opened, because of `fault`. It is unchanged, and a crash leaves what it could
+-- leave before, or the contents with which a store over it would have been opened.
 pub record IsRefused (wanted : Wanted) (old new : State) (fault : FileFault) : Type 0 where
   pub clean : HasCleanDisk new → HasCleanDisk old
   pub not_empty : IsNotOurs fault → ¬ Begins wanted old.now

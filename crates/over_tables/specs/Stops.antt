@@ -1,4 +1,4 @@
--- What a server over tables that stops at an arrival leaves.
+-- The trees that a server leaves if it crashes during an arrival.
 use Rattle.sqlite.specs.Held.{state}
 use Rattle.sqlite.specs.Store.{Ghosts}
 use Rattle.sqlite.specs.Tree.{Trees}
@@ -9,7 +9,8 @@ use Rattle.reply_store.specs.Stops.{StopsAt}
 use Rattle.schema.specs.Stores.{connection, stands_for}
 use Rattle.schema.specs.declared.store.SqlStore.{SqlStore}
 
--- a store that was opened with these contents may leave these trees, where it stops at an arrival
+-- A store that was opened with the contents `c` may leave `trees` if the server crashes during the
+-- arrival `a`.
 pub record IsLeftAt {S : Type 0} (g : Ghosts S) (trees : Trees) (c : Contents) (a : Arrived) : Type 0 where
   pub opened : SqlStore S g
   pub stopped : SqlStore S g

@@ -1,45 +1,46 @@
-//! Why a file is not ours.
+//! The causes of refusal 81.
 ghost use Rattle.std.specs.Prelude.{◌≡◌, Some, option_map};
 ghost use Rattle.over_tables.specs.Causes.{commits_in, name_in, word_of};
 
 use file_causes::Difference;
 use std::fmt;
 
-/// Why a file is not ours: refusal 81.
+/// The reason why a database file is refused with number 81.
 #[derive(Debug, Drop, PartialEq, Eq)]
 pub enum Cause {
-    /// Nothing has its path.
+    /// No file has this path.
     NoFile,
-    /// Its folder isn't there.
+    /// The folder of the file doesn't exist.
     NoFolder,
-    /// Its path is a folder's.
+    /// The path leads to a folder.
     Folder,
-    /// Its path is that of a device, a socket, a link that leads nowhere or a file with a further
-    /// name, or no path for SQLite.
+    /// The path leads to a device, a socket, a broken link or a file with a second name (a hard
+    /// link), or SQLite doesn't accept the path.
     Special,
-    /// The user may not read and write it, or its log, or make either in its folder.
+    /// The user isn't allowed to read and write the file or its WAL, or to create one of them in
+    /// its folder.
     NoRight,
-    /// A journal stands beside it, which only SQLite itself can undo.
+    /// There is a rollback journal next to the file, which only SQLite's own library can undo.
     Journal,
-    /// Another process has it open.
+    /// Another process has the file open.
     InUse,
-    /// It doesn't begin as a file that SQLite wrote.
+    /// The file doesn't begin like a file that SQLite wrote.
     NotSqlite,
-    /// Its schema isn't understood, or its rows and indices don't obey it.
+    /// The schema isn't understood, or the rows and indexes don't conform to it.
     Invalid,
-    /// Its pages are damaged.
+    /// Pages of the file are damaged.
     Corrupt,
-    /// It can't be opened for another cause.
+    /// The file can't be opened for another reason.
     CannotOpen,
-    /// Its WAL is damaged: behind the damage, this many durable commits are still there, which
-    /// SQLite's recovery would drop.
+    /// The WAL is damaged. After the damage it still has `commits` durable commits, which would be
+    /// lost if SQLite recovered it.
     DamagedWal { commits: u64 },
-    /// Its tables differ from ours.
+    /// The tables differ from the tables of a store. `difference` is the first difference.
     Tables { difference: Difference },
 }
 
 impl Cause {
-    /// The word that people read.
+    /// Returns the word for the cause in messages and event lines, such as `in-use`.
     pub fn word(&self) -> &'static str
         ensures { result.now ≡ word_of self.now }
     {
@@ -60,7 +61,7 @@ impl Cause {
         }
     }
 
-    /// The name of the table, the index or the view that it names.
+    /// Returns the name of the table, index or view that differs, if the cause names one.
     pub fn name(&self) -> Option<&[u8]>
         ensures { option_map (λ name. name.now) result ≡ name_in self.now }
     {
@@ -70,7 +71,7 @@ impl Cause {
         }
     }
 
-    /// How many durable commits recovery would drop, if the WAL is damaged.
+    /// Returns the number of durable commits that a recovery would lose, if the WAL is damaged.
     pub fn commits(&self) -> Option<u64>
         ensures { result ≡ commits_in self.now }
     {

@@ -1,4 +1,4 @@
-//! A drill over the tables of a database in memory: the engine of `persod drill`.
+//! The engine of `persod drill`: runs a drill over the tables of a database in memory.
 ghost use Rattle.std.specs.Prelude.{IfOk};
 ghost use Rattle.sqlite.specs.Steps.{over_memory};
 ghost use Rattle.job_facts.specs.Contents.{no_contents};
@@ -13,7 +13,12 @@ use sqlite::{Connection, MemStore};
 use std::alloc::Global;
 use std::io::{Read, Write};
 
-/// Does the lines of a script over tables in memory that begin empty, as `drill_over` does.
+/// Runs the lines of a script as `drill_over` does, with a store in memory that is empty at first.
+///
+/// # Errors
+///
+/// Returns the errors of `drill_over`. If the store can't be created, nothing is read or written,
+/// and the error is `Memory` or `Storage`.
 pub fn drill_engine<R: Read, W: Write>(
     alloc: Global,
     reader: &mut R,
@@ -25,7 +30,7 @@ pub fn drill_engine<R: Read, W: Write>(
     drill_over(alloc, begun(alloc)?, reader, writer)
 }
 
-// A store without facts.
+// Creates a store without contents.
 fn begun(alloc: Global) -> Result<SqlStore<MemStore>, StoreFault>
     ensures { IfOk result (λ store. IsHonest (stands_for over_memory store)
         → (stands_for over_memory store).holds no_contents) }

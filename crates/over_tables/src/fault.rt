@@ -1,4 +1,4 @@
-//! Why a file is not taken.
+//! The faults of opening a database file.
 ghost use Rattle.std.specs.Prelude.{◌≡◌};
 ghost use Rattle.over_tables.specs.Faults.{of_later};
 
@@ -8,22 +8,25 @@ use job_facts::StoreFault;
 use sqlite::{Error, ErrorCode};
 use std::alloc::AllocError;
 
-/// The number of the refusal of a file whose tables are not ours.
+/// The number of the refusal of a file that SQLite can't open, or whose tables don't have the form
+/// of any schema version.
 pub const NOT_OURS: u16 = 81;
 
-/// The number of the refusal of a file whose rows are not those of sound contents.
+/// The number of the refusal of a file whose rows don't represent sound contents.
 pub const DAMAGED: u16 = 82;
 
-/// Why a file is not taken.
+/// The reason why a database file isn't opened.
 #[derive(Debug, Drop, PartialEq, Eq)]
 pub enum FileFault {
-    /// There is no file, it is none that SQLite opens, or its tables are not ours: refusal 81.
+    /// The file doesn't exist, SQLite can't open it, or its tables don't have the form of any
+    /// schema version: refusal 81.
     NotOurs { cause: Cause },
-    /// Its tables are ours, and their rows are not those of sound contents: refusal 82.
+    /// The tables have the form of a schema version, but the rows don't represent sound contents:
+    /// refusal 82.
     Damaged { cause: Damage },
-    /// The file's device failed or is full.
+    /// The device of the file failed or is full.
     Storage,
-    /// Memory was refused.
+    /// An allocation failed.
     Memory,
 }
 
@@ -52,7 +55,8 @@ impl From<AllocError> for FileFault {
     }
 }
 
-// Why a file can't be read, once its tables were seen.
+// Returns the fault for an error after the tables were read successfully. Only an allocation or the
+// device can be the reason.
 pub(crate) fn later(error: Error) -> FileFault
     ensures { result ≡ of_later error }
 {

@@ -1,4 +1,4 @@
-//! What holds of a server over tables that stops.
+//! Opening a store after a crash of a server.
 ghost use Rattle.std.specs.Prelude.{◌≡◌, [], ◌∷◌, false, IfErr, IfOk, IsTrue};
 ghost use Rattle.sqlite.specs.Held.{state};
 ghost use Rattle.sqlite.specs.State.{HasCleanDisk};
@@ -14,9 +14,14 @@ use schema::{OpenFault, SqlStore};
 use sqlite::{Alter, Connection};
 use std::alloc::Global;
 
-/// Opens a store over trees that the stop of a server may have left, at any moment of an arrival.
-/// It has the contents before the arrival or those after it, with its kept reply, and the next
-/// crash leaves that alone. It is never refused as not ours or damaged.
+/// Opens a store over the database `conn`, which a server that crashed at any point of an arrival
+/// may have left. The store has the contents before the arrival, or the contents after it with its
+/// kept reply, and the next crash leaves exactly these contents.
+///
+/// # Errors
+///
+/// Returns the connection with `OpenFault::Store` if the device failed or is full, or if an
+/// allocation fails. The database is never refused.
 pub fn open_after_a_stop<S: Alter>(
     alloc: Global,
     conn: Connection<S>,

@@ -1,5 +1,5 @@
-//! What runs over the tables of a database: its store is opened, or why it is refused is found; a
-//! server, over those of a file, and a drill, over those in memory.
+//! Opens the store over a database, or finds why the database is refused. Runs a server over a
+//! database file, and a drill over a database in memory.
 #![tactic(auto)]
 
 mod cause;

@@ -1,4 +1,4 @@
-//! The store over a database that is opened.
+//! Opens the store over a database.
 ghost use Rattle.std.specs.Prelude.{◌≡◌, ◌↔◌, false, IfErr, IfOk, IsTrue};
 ghost use Rattle.sqlite.specs.Held.{state};
 ghost use Rattle.sqlite.specs.State.{HasCleanDisk};
@@ -13,16 +13,18 @@ use sql_base::is_empty;
 use sqlite::{Alter, Connection};
 use std::alloc::Global;
 
-/// Which databases are taken.
+/// The databases that may be opened.
 #[derive(Clone, Copy, Debug, PartialEq, Eq)]
 pub enum Wanted {
-    /// One that is empty, as a new file's is, which gets our tables, or one that has them.
+    /// An empty database, such as the one of a new file, in which tables are created, or a database
+    /// with the tables of a store, in any schema version.
     Any,
-    /// One that has our tables.
+    /// Only a database with the tables of a store, in any schema version.
     Ours,
 }
 
-/// Whether a new store begins in a database: it is empty, and one that is may be had.
+/// Returns `true` if a new store is created in the database, because it is empty and `wanted`
+/// allows that.
 pub fn begins<S: Alter>(conn: &Connection<S>, wanted: Wanted) -> bool
     ensures { IsTrue result ↔ Begins wanted (state S.Store conn.now).now }
 {
@@ -32,10 +34,20 @@ pub fn begins<S: Alter>(conn: &Connection<S>, wanted: Wanted) -> bool
     }
 }
 
-/// The store over a database: a new one where it is empty and may be, and else the one whose rows
-/// it holds, in our tables of any version. Any other is refused and stays as it is: its connection
-/// is handed back with the cause, for which its schema, or all its rows, are read again. A crash
-/// leaves what it could leave before, or what the store stands for.
+/// Opens the store over the database `conn`. If the database is empty and `wanted` allows that, a
+/// new store is created. Otherwise the store has the contents whose rows the database contains, in
+/// the tables of any schema version. A crash leaves what it could leave before, or the contents of
+/// the store.
+///
+/// # Errors
+///
+/// Returns the connection with one of these faults. The database is unchanged. To find the cause of
+/// a refusal, its schema or all its rows are read again.
+///
+/// - `NotOurs`: the tables don't have the form of any schema version (refusal 81).
+/// - `Damaged`: the rows don't represent sound contents (refusal 82).
+/// - `Storage`: the device failed or is full, or returned other data when the cause was looked for.
+/// - `Memory`: an allocation fails.
 pub fn store_over<S: Alter>(
     alloc: Global,
     conn: Connection<S>,

@@ -1,4 +1,4 @@
-//! Why a database that is opened is not taken.
+//! Finds the cause of a refusal.
 ghost use Rattle.std.specs.Prelude.{◌≡◌, false};
 ghost use Rattle.sqlite.specs.Held.{state};
 ghost use Rattle.sqlite.specs.State.{HasCleanDisk, Survives};
@@ -14,8 +14,8 @@ use schema::OpenFault;
 use sqlite::{Alter, Connection, Error};
 use std::alloc::Global;
 
-// What is reported of tables that were not ours, by how they differ now. A device that gives ours
-// now has failed.
+// Returns the fault for tables that were refused. `found` is their difference when they are read
+// again. If they have no difference now, the device has failed.
 fn of_difference(found: Result<Option<Difference>, Error>) -> FileFault
     ensures { result ≡ of_difference found }
 {
@@ -28,8 +28,8 @@ fn of_difference(found: Result<Option<Difference>, Error>) -> FileFault
     }
 }
 
-// What is reported of rows that were not those of sound contents, by what is wrong with them now. A
-// device that gives such rows now has failed.
+// Returns the fault for rows that were refused. `found` is the damage when they are read again. If
+// there is no damage now, the device has failed.
 fn of_damage(found: Result<Option<Damage>, Error>) -> FileFault
     ensures { result ≡ of_damage found }
 {
@@ -40,7 +40,8 @@ fn of_damage(found: Result<Option<Damage>, Error>) -> FileFault
     }
 }
 
-// Why a database is refused, for which its schema, or all its rows, are read again.
+// Returns the fault with the cause of a refusal. The schema, or all rows, are read again to find
+// it.
 pub(crate) fn with_cause<S: Alter>(
     alloc: Global,
     mut conn: Connection<S>,

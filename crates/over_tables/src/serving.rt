@@ -1,4 +1,4 @@
-//! A server over the tables of a file: the headline over SQLite.
+//! A server over a database file: the main theorem over SQLite.
 ghost use Rattle.std.specs.Prelude.{List, is_some, length};
 ghost use Rattle.sqlite.specs.Files.{over_files};
 ghost use Rattle.sqlite.specs.declared.FileStore.{FileStore as File};
@@ -17,11 +17,19 @@ use sqlite_disk::Disk;
 use std::alloc::Global;
 use std::io::Write;
 
-/// Writes the port that it listens on, serves so many connections, one after the other, over the
-/// tables of a file, closes the file, and writes how many they were: at that line the file is whole
-/// without its write-ahead log. Beside these two lines it writes event lines. Errors: a line can't
-/// be written, memory is refused, there is no next connection, or the file can't be closed; what
-/// was served stands.
+/// Writes a line with the port, serves `turns` connections, one at a time, over the store in a
+/// database file, closes the file, and writes a line with the number of connections. When this last
+/// line is written, the database file is complete without its WAL. Also writes event lines.
+///
+/// # Errors
+///
+/// Connections served before an error are not affected, and the store is closed even after an
+/// error.
+///
+/// - `Next`: the next connection can't be accepted.
+/// - `Write`: one of the two lines can't be written.
+/// - `Memory`: an allocation fails.
+/// - `Store`: all connections were served, but the file can't be closed.
 pub fn serve_over_tables<D: Disk + Drop, C: Connections, W: Write, E: Write + Drop>(
     alloc: Global,
     store: SqlStore<FileStore<D>>,

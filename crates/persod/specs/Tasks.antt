@@ -1,5 +1,5 @@
--- What a task over the store of a file comes to (this project's profile). Of the process's own
--- streams no bytes are known.
+-- The results of the tasks over the store in a database file (this project's profile). The bytes of
+-- the process's own streams are unknown.
 use Rattle.std.specs.Prelude.{◌≡◌, ◌⊎◌, List, [], ◌∷◌, false, length, None, OnOk, Result, Ok, Err, ⊤}
 use Rattle.std.specs.declared.io.ErrorKind.{ErrorKind}
 use Rattle.event_lines.specs.Notes.{NotesAll}
@@ -23,7 +23,8 @@ use Rattle.subcommands.specs.declared.end.End.TheVariants.{Done}
 use Rattle.persod.specs.declared.tasks.ReportTask.{ReportTask}
 use Rattle.persod.specs.declared.tasks.ServeTask.{ServeTask}
 
--- it ends so, unless the close of the store fails; where that goes well, the file is whole
+-- The run ends with `last`, or with the fault if the store can't be closed. If it is closed,
+-- `whole` is true: the database file is complete.
 abbrev pub EndsClosed : Type 0 → End → End → Type 0
 EndsClosed whole last end = (closing : Result (Unit {0}) StoreFault) × OnOk closing whole × (end ≡ end_of_close last closing)
 
@@ -33,11 +34,11 @@ abbrev pub end_of_serve : Result (Unit {0}) ServeStop → End
 end_of_serve (Ok u) = Done
 end_of_serve (Err stop) = end_of_serve_stop stop
 
--- the event line of the file names its path and says how it was found
+-- The event line about the database file has the path of the task, and says how the file was found.
 abbrev pub IsOpening : ServeTask → Found → Opened → Type 0
 IsOpening task found opened = (opened.path.now ≡ task.path.now) × (opened.is_new ≡ found.is_new) × (opened.has_log ≡ found.has_log)
 
--- Connections were served over the store, and it was closed.
+-- Connections were served over the store, and the store was closed.
 pub record ServesFile (task : ServeTask) (found : Found) (old last : State) (whole : Type 0) (end : End) : Type 0 where
   pub opened : Opened
   pub exchanges : List Exchange
@@ -48,8 +49,8 @@ pub record ServesFile (task : ServeTask) (found : Found) (old last : State) (who
   pub notes : NotesRun whole old last false opened exchanges result task.level None None
   pub ends : end ≡ end_of_serve result
 
--- The system didn't give the port, for a reason of this kind: its event line was written, and
--- nothing was done over the store before it was closed.
+-- The server couldn't listen on its port because of an error of the kind `why`. Its event line was
+-- written, and the store didn't change before it was closed.
 pub record LacksPort (task : ServeTask) (old last : State) (whole : Type 0) (end : End) : Type 0 where
   pub why : ErrorKind
   pub stays : Stays old last
@@ -65,7 +66,7 @@ abbrev pub end_of_report : Result (Unit {0}) AccountFault → End
 end_of_report (Ok u) = Done
 end_of_report (Err fault) = end_of_account fault
 
--- The batch was reported, the store stayed as it was, and it was closed.
+-- The batch was reported, and the store didn't change before it was closed.
 pub record ReportsFile (task : ReportTask) (old last : State) (whole : Type 0) (end : End) : Type 0 where
   pub result : Result (Unit {0}) AccountFault
   pub stays : Stays old last

@@ -1,4 +1,4 @@
-//! What the program does with the store of a file, and as a machine.
+//! The tasks of `persod` over the store in a database file, and its simulated machine.
 ghost use Rattle.arguments.specs.Words.{IsBoot};
 
 use arguments::FeedStart;
@@ -17,27 +17,30 @@ use store_data::Name;
 use store_files::{Found, StoreTask};
 use subcommands::{End, end_of_close, note_unstarted, run_feed};
 
-/// Bytes of a block that glibc, with its head and the allocator's, still counts among those up to
-/// 32 MiB: of no larger one it learns when it is let go.
+/// A size in bytes just under 32 MiB, with space for the headers of glibc and of the allocator. If
+/// a larger block is freed, glibc doesn't adapt to its size.
 const LARGE_BLOCK: usize = 33_488_896;
 
-// Once a large block was let go, the C library keeps blocks up to its size for the next that asks.
-// Until then it gives each back to the system after an arrival, and takes and clears it for the
-// next, a third of the time of an opening beside a batch of 600 KB. So one is made and let go
-// untouched, which takes no memory. Where it is refused, nothing changes.
+// Makes the C library keep freed blocks of up to `LARGE_BLOCK` bytes for later allocations.
+// Otherwise it returns each large block to the system after an arrival, and requests and clears it
+// again for the next one. With a batch of 600 KB in the store this takes a third of the time of an
+// `open` request.
+//
+// It is enough to free one block of this size. The block isn't touched, so it uses no memory. If
+// its allocation fails, nothing changes.
 fn keep_large_blocks(alloc: Global) {
     drop(Vec::<u8>::with_capacity(alloc, LARGE_BLOCK));
 }
 
-/// Serves so many connections to a port of 127.0.0.1.
+/// A task that serves `turns` connections on the port `port` of 127.0.0.1.
 #[derive(Drop)]
 pub struct ServeTask<'a> {
     pub rt: &'a HostRuntime,
-    /// The file's path.
+    /// The path of the database file.
     pub path: &'a str,
     pub port: u16,
     pub turns: u32,
-    /// Which event lines are written.
+    /// The level that says which event lines are written.
     pub level: Level,
 }
 
@@ -66,6 +69,7 @@ impl StoreTask for ServeTask<'_> {
             }
         };
         let port = connections.port();
+        connections.end_after(turns);
         let opened = Opened {
             path: path.as_bytes(),
             is_new: found.is_new,
@@ -87,7 +91,7 @@ impl StoreTask for ServeTask<'_> {
     }
 }
 
-/// Prints the report of a batch.
+/// A task that prints the report of the batch `batch`.
 #[derive(Drop)]
 pub struct ReportTask<'a> {
     pub rt: &'a HostRuntime,
@@ -112,9 +116,9 @@ impl StoreTask for ReportTask<'_> {
     }
 }
 
-/// Feeds a machine with the cards of standard input, by the server at a port of 127.0.0.1. What is
-/// printed goes to standard output at once, so that a machine that loses power has printed its
-/// cards.
+/// Simulates a machine that gets its cards from standard input, and sends its requests to the
+/// server on the port `port` of 127.0.0.1. Standard output isn't buffered, so a machine that loses
+/// power has already printed its cards.
 pub fn feed<E: Write + Drop>(
     rt: &HostRuntime,
     port: u16,

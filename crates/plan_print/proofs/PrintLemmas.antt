@@ -1,4 +1,4 @@
--- The text of a command's line, and of a batch.
+-- The line of a command, and the text of a batch.
 use Rattle.std.proofs.Common.{◌≡◌, ℕ, ◌+◌, ◌/◌, ◌%◌, ◌<◌, List, [], ◌∷◌, ◌++◌, length, take, get_or, set, map, All, None, refl, sym, subst, ap, ◌∙◌, arith}
 use Rattle.std.specs.Prelude.{slice_index}
 use Rattle.std.specs.List.{flat_map}
@@ -16,7 +16,7 @@ use Rattle.plan_print.specs.Printed.{command_lines, planned_of, printed, record_
 use Rattle.plan_print.specs.declared.print.Planned.{Planned}
 use Rattle.plan_print.proofs.TextLemmas.{hex_more, record_key, record_rows}
 
--- ---- a command's line
+-- ---- the line of a command
 
 pub put_more : (bytes text first second : List ℕ) (i at b high low : ℕ) → i < length bytes → b ≡ get_or bytes i 0 → at < length text → at + 1 < length first
     → take at text ≡ encode_upper (take i bytes) → high ≡ slice_index upper_digits (b / 16) → low ≡ slice_index upper_digits (b % 16)
@@ -28,7 +28,7 @@ put_more bytes text first second i at b high low inside is room next so_far of_h
 
 -- ---- records
 
--- the plans of a batch's records have what is printed for the batch
+-- The lines of all planned records are the text of all records.
 planned_text : {V : Type 0} (p : Product) (view : V → List Row) (vs : List V) → flat_map text_of (map (λ v. planned_of p (view v)) vs) ≡ flat_map (record_text p) (map view vs)
 unfolding text_of record_text command_lines
 planned_text p view [] = refl
@@ -39,11 +39,11 @@ pub printed_of : {V : Type 0} (p : Product) (view : V → List Row) (vs : List V
 unfolding printed
 printed_of p view vs rows plans groups planned = ap (flat_map text_of) planned ∙ planned_text p view vs ∙ ap (flat_map (record_text p)) groups
 
--- the rows of each record of a batch are those of a record
+-- The rows of each record of a batch satisfy `AreRows`.
 pub rows_of_records : {V : Type 0} (view : V → List Row) (vs : List V) (rows : List Row) → AreBatchRows rows → map view vs ≡ grouped record_key rows → All (λ v. AreRows (view v)) vs
 rows_of_records view vs rows fits groups = All-from_map view AreRows vs (subst (All AreRows) (sym groups) (record_rows rows fits))
 
--- and have no fault
+-- If the records of a batch are sound, none of them has a fault.
 pub sound_records : {V : Type 0} (m : ℕ) (view : V → List Row) (vs : List V) (rows : List Row) → AreSoundRecords m rows → map view vs ≡ grouped record_key rows
     → All (λ v. record_fault m (view v) ≡ None) vs
 sound_records m view vs rows sound groups =

@@ -1,4 +1,4 @@
--- The text that `persod plan` prints.
+-- The output of `persod plan`.
 use Rattle.std.proofs.Common.{◌≡◌, ℕ, ◌+◌, ◌<◌, ◌≤◌, ◌/◌, ◌%◌, List, [], ◌∷◌, ◌++◌, length, take, get_or, All, Option, Some, None, unwrap_or, refl, sym, ap, ◌∙◌, arith}
 use Rattle.std.specs.Prelude.{bytes_eq, slice_index}
 use Rattle.std.proofs.lemmas.List.{append_assoc, take_more}
@@ -41,7 +41,7 @@ agrees_some (Some all) = refl
 abbrev pub record_key : Row → List ℕ
 record_key row = row.rec
 
--- the rows of each record of a batch are those of a record
+-- The rows of each record of a batch satisfy `AreRows`.
 pub record_rows : (rows : List Row) → AreBatchRows rows → All AreRows (grouped record_key rows)
 record_rows rows fits =
     let Filled : List Row → Type 0 = λ group. (1 ≤ length group) × All IsRow group in

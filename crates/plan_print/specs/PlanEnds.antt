@@ -1,4 +1,4 @@
--- How `persod plan` ends.
+-- The results of `persod plan`.
 use Rattle.std.specs.Prelude.{◌≡◌, ◌<◌, ◌≤◌, ⊤, ℕ, List, length, map, Option, Some, None, Result, Ok, Err}
 use Rattle.std.specs.Prelude.{Vec}
 use Rattle.std.specs.Global.{Global}
@@ -19,8 +19,8 @@ use Rattle.plan_print.specs.Printed.{printed}
 use Rattle.plan_print.specs.declared.plan.PlanStop.{PlanStop}
 use Rattle.plan_print.specs.declared.plan.PlanStop.TheVariants as stop
 
--- for the input `raw` the text of its batch was written, a beginning of it where the writer failed,
--- or nothing and a refusal
+-- for the input `raw`, the commands of its batch were written, or only a prefix of them if the
+-- writer failed, or nothing if the input was refused or couldn't be read
 abbrev pub PlanEnds : Product → List ℕ → Option (List ℕ) → Option (List ℕ) → Result (Unit {0}) PlanStop → Type 0
 PlanEnds p raw before after (Ok u) = (rows : List Row) × (length raw ≤ most_input) × (batch_of p raw ≡ Ok rows) × Appends before after (printed p rows)
 PlanEnds p raw before after (Err (stop.Refused fault)) = (length raw ≤ most_input) × (batch_of p raw ≡ Err fault) × Keeps before after
@@ -29,7 +29,7 @@ PlanEnds p raw before after (Err stop.WriteFailed) = (rows : List Row) × (lengt
 PlanEnds p raw before after (Err stop.ReadFailed) = Keeps before after
 PlanEnds p raw before after (Err stop.Memory) = Keeps before after
 
--- ---- the steps on the way
+-- ---- intermediate results
 
 abbrev pub unread : ReadFault → PlanStop
 unread read.Failed = stop.ReadFailed
@@ -39,12 +39,12 @@ abbrev pub stop_of : ImportFault → PlanStop
 stop_of (fault.At f) = stop.Refused f
 stop_of fault.Memory = stop.Memory
 
--- an input that was not read whole is too large
+-- an input that has more bytes than allowed is too large
 abbrev pub within : Option (Vec ℕ Global) → Result (Vec ℕ Global) PlanStop
 within (Some v) = Ok v
 within None = Err stop.TooLarge
 
--- the input was read, or it is too large
+-- the whole input was read, or it is too large
 abbrev pub ReadsInput : List ℕ → Result (Vec ℕ Global) PlanStop → Type 0
 ReadsInput raw (Ok v) = (v.items ≡ raw) × (length raw ≤ most_input)
 ReadsInput raw (Err stop.TooLarge) = most_input < length raw
@@ -53,7 +53,7 @@ ReadsInput raw (Err stop.Memory) = ⊤
 ReadsInput raw (Err stop.WriteFailed) = ⊥
 ReadsInput raw (Err (stop.Refused f)) = ⊥
 
--- the rows of each record of a batch, or its fault
+-- the rows of each record of the batch, or the fault of the batch
 abbrev pub GroupsBatch : Product → List ℕ → Result (Vec (Vec Row Global) Global) PlanStop → Type 0
 GroupsBatch p raw (Ok records) =
     (rows : List Row) × (batch_of p raw ≡ Ok rows) × AreBatchRows rows × AreSoundRecords p.max rows

@@ -1,4 +1,4 @@
--- What `persod plan` prints.
+-- The output of `persod plan`.
 use Rattle.std.specs.Prelude.{ℕ, List, [], ◌∷◌, ◌++◌, codes}
 use Rattle.std.specs.List.{flat_map}
 use Rattle.hex.specs.Hex.{encode_upper}
@@ -9,26 +9,27 @@ use Rattle.plan_print.specs.declared.print.Planned.{Planned}
 use Rattle.store_data.specs.declared.row.Product.{Product}
 use Rattle.store_data.specs.declared.row.Row.{Row}
 
--- the name that a record's rows share
+-- the record name that all these rows have
 abbrev pub name_of : List Row → List ℕ
 name_of [] = []
 name_of (row ∷ more) = row.rec
 
--- a record's name line, and its commands in upper case hexadecimal, a line each
+-- the line with the name of a record, then a line for each of its commands, in upper-case
+-- hexadecimal
 unfoldable pub record_text : Product → List Row → List ℕ
 record_text p rows = line (codes "record " ++ name_of rows) ++ flat_map (λ command. line (encode_upper command)) (sequence_of p rows)
 
--- the same for each record of a batch, by first appearance
+-- the text of all records of a batch, in the order in which they first appear
 unfoldable pub printed : Product → List Row → List ℕ
 printed p rows = flat_map (record_text p) (grouped (λ (row : Row). row.rec) rows)
 
--- ---- the steps on the way
+-- ---- intermediate results
 
--- the commands of a plan in upper case hexadecimal, a line each
+-- a line for each command of a plan, in upper-case hexadecimal
 unfoldable pub command_lines : Plan → List ℕ
 command_lines plan = flat_map (λ command. line (encode_upper command)) (sequence plan)
 
--- a record's name, and its plan
+-- the name and the plan of the record with these rows
 abbrev pub planned_of : Product → List Row → Planned
 planned_of p rows = record { name = name_of rows; plan = plan_of p rows }
 

@@ -1,4 +1,4 @@
-//! The engine of `persod plan`: a batch file's commands, printed.
+//! Prints the commands of a batch file, for `persod plan`.
 #![tactic(auto)]
 
 mod plan;

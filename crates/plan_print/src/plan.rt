@@ -1,4 +1,4 @@
-//! `persod plan`: from the bytes of a batch to the printed commands.
+//! Plans the records of a batch file and prints their commands.
 ghost use Rattle.std.specs.Prelude.{◌≡◌, ℕ, List, All, None, map, IfOk};
 ghost use Rattle.std.specs.List.{flat_map};
 ghost use Rattle.store_data.specs.RecordFaults.{record_fault};
@@ -15,18 +15,18 @@ use std::io::{Read, Write};
 use store_data::{Product, Row, grouped, plan_of_sound};
 use text_io::{MOST_INPUT, ReadFault, WriteFailed, read_within};
 
-/// Why `persod plan` stopped.
+/// A reason why `persod plan` stopped.
 #[derive(Clone, Copy, Debug, PartialEq, Eq)]
 pub enum PlanStop {
-    /// The batch has a fault.
+    /// The first fault of the batch file.
     Refused(RowFault),
-    /// The input has over `MOST_INPUT` bytes.
+    /// The input has more than `MOST_INPUT` bytes.
     TooLarge,
     /// A read failed.
     ReadFailed,
-    /// A write failed, or took nothing.
+    /// A write failed or accepted no bytes.
     WriteFailed,
-    /// Memory was refused.
+    /// An allocation failed.
     Memory,
 }
 
@@ -76,11 +76,18 @@ impl From<WriteFailed> for PlanStop {
     }
 }
 
-/// Prints the commands of the batch that the reader gives: for each record its name line, and its
-/// command sequence in upper case hexadecimal, a line each (EMV CPS 1.1; this project's profile).
+/// Prints the commands of the batch file in `reader`: for each record a line with its name, then a
+/// line with each command in upper-case hexadecimal (EMV CPS 1.1; this project's profile).
 ///
-/// It writes only after every record was planned, and leaves it to the caller to flush. Errors: the
-/// first fault of the batch; over `MOST_INPUT` bytes; a read or a write that fails; refused memory.
+/// Nothing is written before every record is planned. The caller flushes `writer`.
+///
+/// # Errors
+///
+/// - `Refused`: the batch file has a fault; this is the first one.
+/// - `TooLarge`: the input has more than `MOST_INPUT` bytes.
+/// - `ReadFailed`: a read fails.
+/// - `WriteFailed`: a write fails. Only a prefix of the text was written then.
+/// - `Memory`: an allocation fails.
 pub fn plan_engine<R: Read, W: Write>(
     alloc: Global,
     product: &Product,
@@ -98,14 +105,14 @@ pub fn plan_engine<R: Read, W: Write>(
     Ok(())
 }
 
-// The bytes of an input, where it is not too large.
+// Returns the bytes of an input that isn't too large.
 fn within(read: Option<Vec<u8>>) -> Result<Vec<u8>, PlanStop>
     ensures { result ≡ within read }
 {
     read.ok_or(PlanStop::TooLarge)
 }
 
-// The bytes of a batch.
+// Reads the bytes of a batch file.
 fn input<R: Read>(alloc: Global, reader: &mut R) -> Result<Vec<u8>, PlanStop>
     ensures { (raw : List ℕ) × Agrees (R.remaining reader.old) raw × ReadsInput raw result }
 {
@@ -113,7 +120,7 @@ fn input<R: Read>(alloc: Global, reader: &mut R) -> Result<Vec<u8>, PlanStop>
     within(read)
 }
 
-// The rows of each record of a batch, or its fault.
+// Returns the rows of each record of a batch file, or its first fault.
 fn records(alloc: Global, product: &Product, raw: &[u8]) -> Result<Vec<Vec<Row>>, PlanStop>
     requires { IsProduct product.now }
     ensures { GroupsBatch product.now raw.now result }
@@ -122,7 +129,7 @@ fn records(alloc: Global, product: &Product, raw: &[u8]) -> Result<Vec<Vec<Row>>
     Ok(grouped(alloc, batch.rows)?)
 }
 
-// The plan of each record.
+// Plans each record.
 fn plans<'a>(
     alloc: Global,
     product: &Product,
@@ -154,7 +161,7 @@ fn planned<'a>(alloc: Global, product: &Product, rows: &'a [Row]) -> Result<Plan
     })
 }
 
-// Writes the lines of each record, or a beginning of them where the writer fails.
+// Writes the lines of all records, or a prefix of them if the writer fails.
 fn print<W: Write>(writer: &mut W, plans: &[Planned<'_>]) -> Result<(), WriteFailed>
     ensures { Writes (W.contents writer.old) (W.contents writer.new)
         (flat_map text_of plans.now) result }

@@ -1,4 +1,4 @@
-//! Printing a plan: a record's name line, and each command by the cursor, a line each.
+//! Prints the commands of a record.
 ghost use Rattle.std.specs.Prelude.{◌≡◌, ◌+◌, ◌*◌, ◌++◌, ◌<◌, ◌≤◌, length, slice_index, take};
 ghost use Rattle.std.specs.Prelude.{codes};
 ghost use Rattle.hex.specs.Hex.{encode_upper, upper_digits};
@@ -9,14 +9,18 @@ use std::io::Write;
 use store_data::{Cursor, Name, RecordPlan, count};
 use text_io::{WriteFailed, write_text};
 
-/// A record's name, and its plan.
+/// The name of a record and its plan.
 #[derive(Drop)]
 pub struct Planned<'a> {
     pub name: Name,
     pub plan: RecordPlan<'a>,
 }
 
-/// Writes the lines of a record, or a beginning of them.
+/// Writes the lines of a record: its name, then one line for each command, in hexadecimal.
+///
+/// # Errors
+///
+/// Fails if a write fails. Only a prefix of the lines was written then.
 pub fn write_record<W: Write>(writer: &mut W, planned: &Planned<'_>) -> Result<(), WriteFailed>
     ensures { Writes (W.contents writer.old) (W.contents writer.new) (text_of planned.now) result }
 {
@@ -24,7 +28,7 @@ pub fn write_record<W: Write>(writer: &mut W, planned: &Planned<'_>) -> Result<(
     write_commands(writer, &planned.plan)
 }
 
-// Writes a record's name line.
+// Writes the line with the name of a record.
 fn write_name<W: Write>(writer: &mut W, name: &Name) -> Result<(), WriteFailed>
     ensures { Writes (W.contents writer.old) (W.contents writer.new)
         (line (codes "record " ++ name.now)) result }
@@ -34,7 +38,7 @@ fn write_name<W: Write>(writer: &mut W, name: &Name) -> Result<(), WriteFailed>
     write_text(writer, b"\n")
 }
 
-// Writes the commands of a plan, as the cursor goes over them.
+// Writes the commands of `plan` in the order of its cursor.
 fn write_commands<W: Write>(writer: &mut W, plan: &RecordPlan<'_>) -> Result<(), WriteFailed>
     ensures { Writes (W.contents writer.old) (W.contents writer.new)
         (command_lines plan.now) result }
@@ -51,7 +55,8 @@ fn write_commands<W: Write>(writer: &mut W, plan: &RecordPlan<'_>) -> Result<(),
     Ok(())
 }
 
-// Puts bytes in upper case hexadecimal at the front, as a line, and answers its length.
+// Puts a line with `bytes` in upper-case hexadecimal at the front of `text`, and returns its
+// length.
 fn put_line(bytes: &[u8], text: &mut [u8; 521]) -> usize
     requires { length bytes.now ≤ 260 }
     ensures line { take result text.new ≡ line (encode_upper bytes.now) }
@@ -67,7 +72,7 @@ fn put_line(bytes: &[u8], text: &mut [u8; 521]) -> usize
     at + 1
 }
 
-// The arithmetic form, so that the loop over a command's bytes takes many at once.
+// Arithmetic instead of a table, so that the compiler can vectorise the loop over the bytes.
 fn upper_digit(value: u8) -> u8
     requires { value < 16 }
     ensures { result ≡ slice_index upper_digits value }

@@ -1,4 +1,4 @@
--- Batches that were put in without their bytes, and have them in the end.
+-- Batches that are inserted without their bytes, which are set at the end.
 use Rattle.std.proofs.Common.{◌≡◌, ◌==◌, ℕ, false, List, [], ◌∷◌, ◌++◌, map, refl, ap, subst, ◌∙◌, arith}
 use Rattle.std.proofs.lemmas.Bool.Decides.{nat_tests}
 use Rattle.std.proofs.lemmas.List.Sorted.{IsPermutation-refl, IsPermutation-sym}
@@ -21,7 +21,7 @@ Differ a b = (b.id == a.id) ≡ false
 other_way : (m n : ℕ) → (m == n) ≡ false → (n == m) ≡ false
 other_way m n other = grind (arith, nat_tests)
 
--- no two batches under rowids that are apart have one id
+-- Batches with different rowids have different ids.
 ids_differ : (bs : List StoredBatch) → AreApart (map batch_row bs) → IsAscending Differ bs
 ids_differ [] apart = tt
 ids_differ (b ∷ bs) apart = (
@@ -33,7 +33,7 @@ bare_differ : (b : StoredBatch) (bs ts : List StoredBatch) → AllByRecursion (D
 bare_differ b [] ts differ = tt
 bare_differ b (c ∷ bs) ts differ = (differ.0, bare_differ b bs ts differ.1)
 
--- each of some has its bytes, by its id
+-- the batches `xs`, after each batch with the id of one of `bs` gets its bytes
 abbrev given : List StoredBatch → List StoredBatch → List StoredBatch
 given bs xs = fold (λ ys b. map (raw_set b.id b.raw) ys) xs bs
 
@@ -44,7 +44,7 @@ given_in (b ∷ bs) t = given_in bs (with_bytes b t)
 given_first : (b : StoredBatch) (xs : List StoredBatch) → AllByRecursion (Differ b) xs → map (raw_set b.id b.raw) (bare b ∷ xs) ≡ b ∷ xs
 given_first b xs differ = rw (itself b.id, stay b.id b.raw xs differ) refl
 
--- one that has its bytes keeps them
+-- A batch that has its bytes keeps them.
 kept_first : (b : StoredBatch) (bs xs : List StoredBatch) → AllByRecursion (Differ b) bs → given bs (b ∷ xs) ≡ b ∷ given bs xs
 kept_first b [] xs differ = refl
 kept_first b (c ∷ bs) xs differ =
@@ -57,7 +57,7 @@ all_given (b ∷ bs) ts differ =
     let rest = map bare bs ++ ts in
     ap (given bs) (given_first b rest differ.0) ∙ kept_first b bs rest (bare_differ b bs ts differ.0) ∙ ap (λ ys. b ∷ ys) (all_given bs ts differ.1)
 
--- it is as if they had been put in with their bytes
+-- The result is the same as if the batches had been inserted with their bytes.
 pub bytes_last : (rows : Tables) (a b c : Database) → Moves (with_all (without_bytes rows)) a b → Moves (with_each with_bytes rows.batches) b c → Moves (with_all rows) a c
 bytes_last rows a b c first then t image =
     let put = with_all (without_bytes rows) t in

@@ -1,4 +1,4 @@
--- What the text of a DROP TABLE means, and what it does.
+-- The meaning of a DROP TABLE statement, and its effect.
 use Rattle.std.proofs.Common.{◌≡◌, ℕ, List, [], false, None, Ok, MatchBool, refl, sym, ap, subst, ◌∙◌}
 use Rattle.sqlite.specs.Table.{Table}
 use Rattle.sqlite.specs.Schema.{Schema}

@@ -1,4 +1,4 @@
--- Our tables of each version are dropped, children first.
+-- The tables of each version are dropped, each after the tables that refer to it.
 use Rattle.std.proofs.Common.{◌≡◌, ◌≢◌, [], codes, false, refl}
 use Rattle.std.specs.List.{AllByRecursion}
 use Rattle.sqlite.specs.Effect.{Database}

@@ -1,4 +1,4 @@
--- Dropping one table after the other leaves none.
+-- Dropping the tables one after the other leaves no table.
 use Rattle.std.proofs.Common.{◌≡◌, ◌==◌, ◌&&◌, ◌||◌, ℕ, List, [], ◌∷◌, Bool, true, false, Some, not, filter, find, map, is_some, inl, inr, refl, sym, ap, subst, ◌∙◌, arith}
 use Rattle.std.specs.List.{AllByRecursion, AllZip, list_any}
 use Rattle.std.specs.Prelude.{bytes_eq}
@@ -21,7 +21,7 @@ use Rattle.sql_tables.proofs.Lookups.{find_filter}
 use Rattle.sql_tables.specs.Each.{Each}
 use Rattle.remaking.specs.Drop.{DropsTable, IsDrop}
 
--- no foreign key of the table does anything where the row is deleted that it points to
+-- No foreign key of the table acts when the row to which it refers is deleted.
 abbrev pub acts : Table → Bool
 acts t = list_any (λ ref. is_some (deed_for Enforced true ref)) t.references
 
@@ -31,7 +31,7 @@ is_among keys n = list_any (λ k. n == k) keys
 abbrev pub numbers : List Table → List ℕ
 numbers ts = map (λ t. t.tree) ts
 
--- these tables, and their indices, are all that there is
+-- The schema has only tables with tree numbers in `keys`, and indexes on these tables.
 pub record HasOnly (keys : List ℕ) (s : Schema) : Type 0 where
   pub quiet : AllByRecursion (λ t. acts t ≡ false) s.tables
   pub tables : AllByRecursion (λ t. is_among keys t.tree ≡ true) s.tables
@@ -47,7 +47,7 @@ all_filter : {X : Type 0} (P : X → Type 0) (g : X → Bool) (xs : List X) → 
 all_filter P g [] all = tt
 all_filter P g (x ∷ xs) all = elim (cases_Bool (g x)) [ inl kept ↦ rw kept ((all.0, all_filter P g xs all.1)) | inr gone ↦ rw gone (all_filter P g xs all.1) ]
 
--- those that stay are among the other keys
+-- The remaining elements are among the other keys.
 fewer : {X : Type 0} (key : X → ℕ) (k : ℕ) (keys : List ℕ) (xs : List X) → AllByRecursion (λ x. is_among (k ∷ keys) (key x) ≡ true) xs
     → AllByRecursion (λ x. is_among keys (key x) ≡ true) (filter (λ x. not (key x == k)) xs)
 fewer key k keys [] all = tt
@@ -90,7 +90,7 @@ none_acts t (u ∷ us) all = rw (no_reference t u.references all.0) (none_acts t
 free : (keys : List ℕ) (s : Schema) (t : Table) → HasOnly keys s → is_acted_on s Enforced t ≡ false
 free keys s t h = none_acts t s.tables h.quiet
 
--- another table is found as before
+-- Another table is still found.
 still_found : (s : Schema) (k : ℕ) (t : Table) → Finds s t → (t.tree == k) ≡ false → Finds (without_table s k) t
 still_found s k t f other =
     let stays : not (t.tree == k) ≡ true = ap not other in
@@ -112,7 +112,7 @@ step t ts s h = record {
   only = one_less t.tree (numbers ts) s h.only;
 }
 
--- the texts drop these tables, one each
+-- Each text drops one of these tables, in their order.
 abbrev pub AreDrops : List (List ℕ) → List Table → Type 0
 AreDrops texts ts = AllZip (λ sql t. IsDrop sql t.name × (t.is_counted ≡ false)) texts ts
 
@@ -124,7 +124,7 @@ each_dropped (sql ∷ texts) (t ∷ ts) are old new drops h =
     let one = drops.1 t h.found.0 are.0.0 (free _ old.schema t h.only) are.0.1 in
     each_dropped texts ts are.1 drops.0 new drops.2 (subst (Stand ts) (sym one.gone) (step t ts old.schema h))
 
--- ---- tables of different names have different numbers
+-- ---- tables with different names have different tree numbers
 
 abbrev pub differ : List Table → Bool
 differ [] = true

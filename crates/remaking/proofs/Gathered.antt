@@ -1,4 +1,4 @@
--- The tables that a schema has just, the last first, are all that there is.
+-- The tables of a version, in reverse order, are all tables of a schema that has just these tables.
 use Rattle.std.proofs.Common.{◌≡◌, ◌==◌, ◌||◌, ℕ, List, [], ◌∷◌, Bool, true, false, Some, Option, find, inl, inr, refl, sym, ap, subst, ◌∙◌}
 use Rattle.std.specs.List.{AllByRecursion, AllZip}
 use Rattle.sqlite.specs.Effect.{Database, IsDatabase}
@@ -35,7 +35,8 @@ module _ (s : Schema) where
   still_among [] all done n h = h
   still_among (t ∷ ts) all done n h = still_among ts all.1 _ n (or_true (n == all.0.number) _ h)
 
-  -- a table that is as one of these has its number
+  -- A table that is equal to one of these tables, except for its tree number, has the tree number
+  -- of that table.
   numbered_as : (ts : List Table) (all : AreThere s ts) (done : List Table) (u t : Table) → Has ts t → ((x : Stands s t) → u.tree ≡ x.number) → is_among (numbers (gathered ts all done)) u.tree ≡ true
   numbered_as [] all done u t has is = absurd has
   numbered_as (x ∷ ts) all done u t (inl same) is =
@@ -50,7 +51,7 @@ for_each : {X : Type 0} (P : X → Type 0) (xs : List X) → ((x : X) → Has xs
 for_each P [] f = tt
 for_each P (x ∷ xs) f = (f x (inl refl), for_each P xs (λ y has. f y (inr has)))
 
--- ---- each index is that of a table
+-- ---- every index belongs to a table
 
 index_of : (t : Table) (i : Index) (v : Value) → IsDefined t i v → i.table ≡ t.tree
 index_of t i Null h = ap (λ (x : Index). x.table) h.3
@@ -67,7 +68,7 @@ all_owned keys ts among (r ∷ rows) (i ∷ is) all =
     let it = all.0 in
     (subst (λ n. is_among keys n ≡ true) (sym (index_of it.table i _ it.defined)) (holds_of (λ t. is_among keys t.tree ≡ true) ts it.table among it.listed), all_owned keys ts among rows is all.1)
 
--- ---- all of them
+-- ---- all tables
 
 module _ (db : Database) (ours : Schema) (sound : IsDatabase db) (just : HasJust db.schema ours) (idle : AllByRecursion (λ t. acts t ≡ false) ours.tables) where
   abbrev there : AreThere db.schema ours.tables

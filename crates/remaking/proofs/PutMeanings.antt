@@ -1,4 +1,4 @@
--- What the resolver reads in each text.
+-- The meaning of each text.
 use Rattle.std.proofs.Common.{refl}
 use Rattle.sqlite.specs.Command.TheVariants.{Insert}
 use Rattle.sqlite.specs.Source.TheVariants.{Values}

@@ -1,4 +1,4 @@
--- What each INSERT of a whole row does to the rows.
+-- The effect of each INSERT of a whole row on the rows.
 use Rattle.std.proofs.Common.{◌≡◌, ℕ, List, [], ◌∷◌, drop, map, false, IsTrue, Ok, Err, Result, refl, subst}
 use Rattle.sqlite.specs.declared.types.Value.TheVariants.{Blob, Null, Text}
 use Rattle.sqlite.specs.Order.{Row}
@@ -18,7 +18,7 @@ use Rattle.row_writes.proofs.Adding.{added}
 use Rattle.remaking.specs.PutTexts.{put_batch_terms, put_batch_text, put_lot_terms, put_lot_text, put_record_terms, put_record_text, put_session_terms, put_session_text}
 use Rattle.remaking.proofs.PutMeanings.{puts_mean}
 
--- a row that the program holds in parts is put in as the one that they make up
+-- A row that the program stores in parts is inserted as the row that consists of these parts.
 module _ {S : Type 0} (g : Ghosts S) {X : Type 0} (with_row : X → Tables → Tables) (old new : Held S) (x y : X) (is : x ≡ y) (sql : List ℕ) (params : Row) (e : Error) where
   pub row_put_in : ((count : ℕ) → Executes sql params (state g old) (state g new) (Ok count) → Moves (with_row x) (state g old).now (state g new).now) → (r : Result ℕ Error)
       → (old.in_transaction ≡ false → (r ≡ Err e) × (new ≡ old)) → (IsTrue old.in_transaction → ExecutesInside 0 sql params (state g old) (state g new) r)

@@ -1,4 +1,4 @@
--- Rows are put into newly made tables.
+-- Rows are inserted into newly created tables.
 use Rattle.std.proofs.Common.{◌∙◌, Result, Ok, Err, OnOk}
 use Rattle.sqlite.specs.State.{State}
 use Rattle.sqlite.specs.declared.error.Error.{Error}

@@ -1,4 +1,5 @@
--- Rows that are put in one after the other are those that were there, and the list.
+-- After rows are inserted one after the other, the table has the previous rows and the rows of the
+-- list.
 use Rattle.std.proofs.Common.{◌≡◌, List, [], ◌∷◌, ◌++◌, map, Result, Ok, Err, refl, sym, ap, subst, ◌∙◌}
 use Rattle.std.specs.Prelude.{OnOk}
 use Rattle.std.specs.List.{fold}
@@ -19,7 +20,7 @@ use Rattle.remaking.specs.Rows.{bare, with_all, with_bare, with_each, without_by
 
 -- ---- parts of a transaction, one after the other
 
--- what the statements of rows make of them, one after the other
+-- the effect of the statements of rows, one after the other
 module _ {X : Type 0} (with_row : X → Tables → Tables) where
   each_moved : (xs : List X) (old new : Database) → Each (λ x. Moves (with_row x)) xs old new → Moves (with_each with_row xs) old new
   each_moved [] old new same = λ t image. subst (IsImage t) (sym same) image
@@ -29,7 +30,7 @@ module _ {X : Type 0} (with_row : X → Tables → Tables) where
   all_moved xs a b (Ok y) it = record { well = record { made = each_moved xs a.now b.now it.well.made; committed = it.well.committed; inside = it.well.goes_on }; kept = it.kept }
   all_moved xs a b (Err e) it = record { well = tt; kept = it.kept }
 
--- a part behind one that went well, where both together change rows so
+-- a part after one that succeeded, if both together change the rows by `h`
 module _ (f g h : Tables → Tables) (a b c : State) (both : Moves f a.now b.now → Moves g b.now c.now → Moves h a.now c.now) where
   pub many_then : {X Y : Type 0} (x : X) (r : Result Y Error) → WroteMany (Moves f) a b (Ok x) → WroteMany (Moves g) b c r → WroteMany (Moves h) a c r
   many_then x (Ok y) one two = record {
@@ -45,7 +46,7 @@ module _ (f g h : Tables → Tables) (a b c : State) (both : Moves f a.now b.now
 pub many_on : {X Y : Type 0} (f g : Tables → Tables) (a b c : State) (x : X) (r : Result Y Error) → WroteMany (Moves f) a b (Ok x) → WroteMany (Moves g) b c r → WroteMany (Moves (λ t. g (f t))) a c r
 many_on f g a b c = many_then f g (λ t. g (f t)) a b c (λ one two t image. two (f t) (one t image))
 
--- what survives each part survives both
+-- Two parts that each survive a crash survive it together.
 pub unharmed : {a b c : State} → Survives a b (λ _. ⊥) → Survives b c (λ _. ⊥) → Survives a c (λ _. ⊥)
 unharmed {a} {b} {c} = survives_then a b c (λ _. ⊥) (λ _. ⊥) (λ _. ⊥) (λ _ db none. absurd none) (λ _ db none. absurd none)
 
@@ -60,7 +61,7 @@ module _ (f g : Tables → Tables) (same : (t : Tables) → HaveSameRows (f t) (
 -- ---- lists
 
 module _ {X : Type 0} where
-  -- each in front of those before it
+  -- the elements of `xs`, each added in front of the ones before
   abbrev onto : List X → List X → List X
   onto ys xs = fold (λ zs z. z ∷ zs) ys xs
 
@@ -74,7 +75,7 @@ module _ {X : Type 0} where
 
 -- ---- tables
 
--- rows that are put into one table, one after the other
+-- rows that are inserted into one table, one after the other
 module _ {X : Type 0} (rows_of : Tables → List X) (with_rows : List X → Tables → Tables) (with_row : X → Tables → Tables)
     (own : (t : Tables) → t ≡ with_rows (rows_of t) t) (step : (x : X) (ys : List X) (t : Tables) → with_row x (with_rows ys t) ≡ with_rows (x ∷ ys) t) where
   each_onto : (xs ys : List X) (t : Tables) → with_each with_row xs (with_rows ys t) ≡ with_rows (onto ys xs) t
@@ -145,7 +146,7 @@ all_onto_same rows t = record {
 pub all_same : (rows t : Tables) → HaveSameRows (with_all (without_bytes rows) t) (all_each rows t)
 all_same rows t = subst (HaveSameRows (with_all (without_bytes rows) t)) (sym (all_in rows t)) (all_onto_same rows t)
 
--- beside no rows they are all
+-- If the tables were empty, the rows are all rows.
 with_none : (rows : Tables) → with_all rows no_rows ≡ rows
 with_none rows =
     rw (

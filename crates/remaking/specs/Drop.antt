@@ -1,4 +1,4 @@
--- What DROP TABLE does to a database.
+-- The effect of DROP TABLE on a database.
 use Rattle.std.specs.Prelude.{◌≡◌, ℕ, List, [], false, Ok}
 use Rattle.sqlite.specs.Change.{KeepsRows, without_table}
 use Rattle.sqlite.specs.Does.{is_acted_on}
@@ -10,7 +10,7 @@ use Rattle.sqlite_schema.specs.declared.schema.Keys.TheVariants.{Enforced}
 use Rattle.sqlite_syntax.specs.declared.statement.Parsed.{Parsed}
 use Rattle.sql_tables.specs.Finds.{Finds}
 
--- the text is DROP TABLE with this name
+-- The text is a DROP TABLE statement for the table `name`.
 pub record IsDrop (sql name : List ℕ) : Type 0 where
   pub parsed : Parsed
   pub is : first sql ≡ Ok parsed
@@ -18,11 +18,11 @@ pub record IsDrop (sql name : List ℕ) : Type 0 where
   pub timeless : parsed.formats ≡ []
   pub free : is_reserved name ≡ false
 
--- the table and its indices are gone, and each other table has its rows
+-- The table and its indexes are dropped, and every other table keeps its rows.
 pub record Dropped (table : Table) (old new : Database) : Type 0 where
   pub gone : new.schema ≡ without_table old.schema table.tree
   pub others : KeepsRows (without_table old.schema table.tree).tables old.trees new.trees
 
--- whatever table the text names is dropped, where no foreign key acts on it
+-- The table that the text names is dropped if no foreign key acts on it.
 abbrev pub DropsTable : List ℕ → Database → Database → Type 0
 DropsTable sql old new = (table : Table) → Finds old.schema table → IsDrop sql table.name → is_acted_on old.schema Enforced table ≡ false → table.is_counted ≡ false → Dropped table old new

@@ -1,4 +1,4 @@
--- The texts of the statements that put whole rows in, and the values that they put in.
+-- The texts of the statements that insert whole rows, and the values that they insert.
 use Rattle.std.specs.Prelude.{List, ℕ, [], ◌∷◌, codes}
 use Rattle.sqlite.specs.declared.types.Value.TheVariants.{Null}
 use Rattle.sqlite.specs.Term.{Term, col, lit}

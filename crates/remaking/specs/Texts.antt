@@ -1,4 +1,4 @@
--- The texts that drop our tables.
+-- The texts that drop the tables of each schema version.
 use Rattle.std.specs.Prelude.{List, [], ◌∷◌, ℕ, codes}
 use Rattle.sql_tables.specs.declared.versions.Version.{Version}
 use Rattle.sql_tables.specs.declared.versions.Version.TheVariants.{One, Two, Three}
@@ -42,7 +42,8 @@ drop_reply = codes "DROP TABLE reply"
 abbrev pub drop_mark : List ℕ
 drop_mark = codes "DROP TABLE mark"
 
--- all tables of a version, the last made first
+-- the texts that drop all tables of a schema version, in reverse order of their creation. Every
+-- table is dropped after the tables that refer to it.
 abbrev pub drops_of : Version → List (List ℕ)
 drops_of One = drop_version ∷ drop_unmixed_grouping ∷ drop_reply ∷ drop_remake ∷ drop_blank ∷ drop_word ∷ drop_session ∷ drop_record ∷ drop_batch ∷ drop_lot ∷ drop_product ∷ []
 drops_of Two = drop_version ∷ drop_mark ∷ drop_unmixed_grouping ∷ drop_reply ∷ drop_remake ∷ drop_blank ∷ drop_word ∷ drop_session ∷ drop_record ∷ drop_batch ∷ drop_lot ∷ drop_product ∷ []

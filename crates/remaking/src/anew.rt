@@ -1,4 +1,5 @@
-//! Our tables of any version are dropped and made anew, in an open transaction.
+//! Replaces the tables of any schema version by empty tables of the current schema, in an open
+//! transaction.
 ghost use Rattle.std.specs.Prelude.{◌≡◌, ◌++◌, ⊤, map};
 ghost use Rattle.sqlite.specs.Held.{state};
 ghost use Rattle.sqlite.specs.State.{HasCleanDisk, Survives};
@@ -11,7 +12,7 @@ ghost use Rattle.remaking.specs.Texts.{drops_of};
 use sql_tables::{Runs, Version, make_all, run_both};
 use sqlite::{Alter, Error, Transaction};
 
-// Versions 1 and 2 differ by the table of released numbers, to which no other refers.
+// Version 2 has one table more than version 1, for release marks. No other table refers to it.
 const ONE: &[&str] = &["DROP TABLE version"];
 
 const TWO: &[&str] = &["DROP TABLE version", "DROP TABLE mark"];
@@ -44,8 +45,8 @@ const THREE: &[&str] = &[
     "DROP TABLE version",
 ];
 
-// The texts that drop all tables of a version, the last made first: its own, and those that it
-// shares with others.
+// Returns the texts that drop all tables of `version`, in reverse order of their creation: first
+// its own tables, then the tables that versions 1 and 2 share.
 fn drops_of(version: Version) -> (&'static [&'static str], &'static [&'static str])
     ensures { map (λ text. text.now) (result.0.now ++ result.1.now) ≡ drops_of version }
 {
@@ -56,7 +57,7 @@ fn drops_of(version: Version) -> (&'static [&'static str], &'static [&'static st
     }
 }
 
-// The statements that drop tables, by their texts.
+// Statements that drop tables, given by their texts.
 struct Dropping;
 
 impl<'a> Runs<&'a str> for Dropping {
@@ -69,7 +70,7 @@ impl<'a> Runs<&'a str> for Dropping {
     }
 }
 
-// Drops all tables of a version.
+// Drops all tables of `version`.
 fn drop_all<S: Alter>(tx: &mut Transaction<'_, S>, version: Version) -> Result<(), Error>
     ensures same_reference { tx.new.conn.ghost_name ≡ tx.old.conn.ghost_name }
     ensures made { HasCleanDisk (state S.Store tx.new.conn.now)
@@ -84,8 +85,8 @@ fn drop_all<S: Alter>(tx: &mut Transaction<'_, S>, version: Version) -> Result<(
     run_both::<Dropping, &str, S>(tx, own, shared)
 }
 
-/// Drops all tables of a version and makes our own, with the version alone in them, in an open
-/// transaction. A crash leaves nothing of it.
+/// Drops all tables of `version`, creates the tables of the current schema and inserts the row of
+/// `version`, in an open transaction. A crash leaves no trace of this.
 pub(crate) fn make_anew<S: Alter>(
     tx: &mut Transaction<'_, S>,
     version: Version,

@@ -1,5 +1,4 @@
-//! Products, lots and batches, with their records and groupings, are put in, in an open
-//! transaction.
+//! Inserts products, lots and batches, with their records and groupings, in an open transaction.
 ghost use Rattle.table_rows.specs.Tables.{with_grouping, with_lot, with_product, with_record};
 ghost use Rattle.remaking.specs.Rows.{with_bare};
 
@@ -47,7 +46,8 @@ impl Put for StoredLot {
     }
 }
 
-// Its bytes are not put in: each record that refers to the batch has its row read whole.
+// The bytes aren't inserted yet, because SQLite reads the whole row of the batch for every record
+// that refers to it.
 impl Put for StoredBatch {
     ghost with_row = { with_bare };
 

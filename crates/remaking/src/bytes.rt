@@ -1,5 +1,5 @@
-//! The bytes of batches are set, in an open transaction. A crash before its end leaves nothing of
-//! it.
+//! Sets the bytes of batches, in an open transaction. A crash before its commit leaves no trace of
+//! them.
 ghost use Rattle.std.specs.Prelude.{◌≡◌, ⊤};
 ghost use Rattle.sqlite.specs.Held.{state};
 ghost use Rattle.sqlite.specs.State.{HasCleanDisk, Survives};
@@ -14,7 +14,7 @@ use sql_tables::{Runs, run_each};
 use sqlite::{Alter, Error, Transaction};
 use table_rows::StoredBatch;
 
-// The statements that set the bytes of batches that are there.
+// The statements that set the bytes of existing batches.
 struct Bytes;
 
 impl Runs<StoredBatch> for Bytes {
@@ -30,8 +30,8 @@ impl Runs<StoredBatch> for Bytes {
     }
 }
 
-/// Sets the bytes of batches that are there, one after the other, up to the first error. An id that
-/// is none of SQL's is one.
+/// Sets the bytes of existing batches, one after the other, up to the first error. An id of 2^63 or
+/// higher is an error.
 pub(crate) fn set_bytes<S: Alter>(
     tx: &mut Transaction<'_, S>,
     batches: &[StoredBatch],

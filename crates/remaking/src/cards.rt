@@ -1,4 +1,4 @@
-//! Sessions, their words and their blanks are put in, in an open transaction.
+//! Inserts sessions, their status words and their blanks, in an open transaction.
 ghost use Rattle.table_rows.specs.Tables.{with_blank, with_session, with_word};
 
 use crate::putting::{Put, fit};

@@ -1,5 +1,5 @@
-//! Rows of all tables are put in, in an open transaction. A crash before its end leaves nothing of
-//! it.
+//! Inserts the rows of all tables, in an open transaction. A crash before its commit leaves no
+//! trace of them.
 ghost use Rattle.std.specs.Prelude.{◌≡◌, OnOk};
 ghost use Rattle.sqlite.specs.Held.{state};
 ghost use Rattle.sqlite.specs.State.{HasCleanDisk, Survives};
@@ -14,9 +14,14 @@ use crate::putting::put_all;
 use sqlite::{Alter, Error, Transaction};
 use table_rows::Tables;
 
-/// Puts in the rows of all tables, those before that others refer to, and sets the bytes of batches
-/// last. A row that a table does not take is an error, and so is a number that is none of SQL's,
-/// from 2^63 on. After an error the caller drops the transaction.
+/// Inserts the rows of all tables, and sets the bytes of batches last. A row is inserted after the
+/// rows that it refers to. After an error the caller must drop the transaction.
+///
+/// # Errors
+///
+/// - `InvalidQuery` if a number is 2^63 or higher
+/// - the error of SQLite if a table doesn't accept a row
+/// - any other error of the database, including out of memory
 pub(crate) fn fill<S: Alter>(tx: &mut Transaction<'_, S>, tables: &Tables) -> Result<(), Error>
     ensures same_reference { tx.new.conn.ghost_name ≡ tx.old.conn.ghost_name }
     ensures wrote { WritesMany (with_all tables.now) (state S.Store tx.old.conn.now)
@@ -33,7 +38,7 @@ pub(crate) fn fill<S: Alter>(tx: &mut Transaction<'_, S>, tables: &Tables) -> Re
     set_bytes(tx, tables.batches.as_slice())
 }
 
-// The rows of all tables, but for the bytes of batches.
+// Inserts the rows of all tables, without the bytes of batches.
 fn fill_bare<S: Alter>(tx: &mut Transaction<'_, S>, tables: &Tables) -> Result<(), Error>
     ensures same_reference { tx.new.conn.ghost_name ≡ tx.old.conn.ghost_name }
     ensures wrote { WritesMany (with_all (without_bytes tables.now)) (state S.Store tx.old.conn.now)

@@ -1,5 +1,7 @@
-//! A database of our tables of any version is made anew: its tables are dropped, our own are made,
-//! and rows are put into them, all in one transaction.
+//! Rebuilds a database with tables of any schema version: drops its tables, creates the tables of
+//! the current schema, and inserts the given rows, all in one transaction.
+//!
+//! The contracts don't state that this succeeds for valid rows. Only tests show it.
 #![tactic(auto)]
 
 mod anew;

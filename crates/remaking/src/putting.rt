@@ -1,5 +1,5 @@
-//! A row is put into its table, and a list of rows, in an open transaction. A crash before its end
-//! leaves nothing of it.
+//! Inserts a row or a list of rows, in an open transaction. A crash before its commit leaves no
+//! trace of them.
 ghost use Rattle.std.specs.Prelude.{◌≡◌, ◌<◌, ◌^◌, ⊤, IsTrue};
 ghost use Rattle.sqlite.specs.Held.{state};
 ghost use Rattle.sqlite.specs.State.{HasCleanDisk, Survives};
@@ -13,10 +13,10 @@ ghost use Rattle.remaking.specs.Rows.{with_each};
 use sql_tables::{Runs, run_each};
 use sqlite::{Alter, Error, Transaction};
 
-/// SQL's numbers end here.
+/// The upper limit of integers in SQL, which are less than this.
 const LIMIT: u64 = 1 << 63;
 
-/// Whether they are numbers of SQL's.
+/// Returns `true` if all four numbers are integers of SQL.
 pub(crate) fn fit(first: u64, second: u64, third: u64, fourth: u64) -> bool
     ensures first { IsTrue result → first < 2 ^ 63 }
     ensures second { IsTrue result → second < 2 ^ 63 }
@@ -28,11 +28,11 @@ pub(crate) fn fit(first: u64, second: u64, third: u64, fourth: u64) -> bool
     first < LIMIT && second < LIMIT && third < LIMIT && fourth < LIMIT
 }
 
-/// A row that can be put into its table.
+/// A row that can be inserted into its table.
 pub(crate) trait Put {
     ghost with_row: { Self → Tables → Tables };
 
-    /// Puts the row in. A number that is none of SQL's is an error.
+    /// Inserts the row. Returns `InvalidQuery` if a number is 2^63 or higher.
     fn put<S: Alter>(&self, tx: &mut Transaction<'_, S>) -> Result<usize, Error>
         ensures same_reference { tx.new.conn.ghost_name ≡ tx.old.conn.ghost_name }
         ensures wrote { WritesRows (with_row self.now) (state S.Store tx.old.conn.now)
@@ -44,7 +44,7 @@ pub(crate) trait Put {
             (state S.Store tx.new.conn.now) result };
 }
 
-// The statements that put rows in.
+// The statements that insert rows.
 struct Putting;
 
 impl<T: Put> Runs<T> for Putting {
@@ -57,7 +57,7 @@ impl<T: Put> Runs<T> for Putting {
     }
 }
 
-/// Puts rows in, one after the other, up to the first error.
+/// Inserts rows, one after the other, up to the first error.
 pub(crate) fn put_all<T: Put, S: Alter>(
     tx: &mut Transaction<'_, S>,
     rows: &[T],

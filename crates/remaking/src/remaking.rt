@@ -1,4 +1,4 @@
-//! A database of our tables of any version is made anew, with rows, in one transaction.
+//! Rebuilds a database with tables of any schema version, in one transaction.
 ghost use Rattle.std.specs.Prelude.{◌≡◌, ⊤, false, IfErr, OnErr, OnOk};
 ghost use Rattle.sqlite.specs.Held.{state};
 ghost use Rattle.sqlite.specs.State.{HasCleanDisk, Survives};
@@ -13,7 +13,7 @@ use sql_tables::Version;
 use sqlite::{Alter, Connection, Error, Transaction};
 use table_rows::Tables;
 
-// What is made of the tables of a version: our own, with these rows.
+// The work of `remake`.
 #[derive(Drop)]
 struct Remaking<'a> {
     version: Version,
@@ -31,9 +31,15 @@ impl<'a> UnitOfWork for Remaking<'a> {
     }
 }
 
-/// Drops the tables of a version, makes our own and puts rows in, or does nothing. A row that a
-/// table does not take is an error, and so is a number that is none of SQL's, from 2^63 on. A crash
-/// leaves what it could leave before, or all of it.
+/// Drops the tables of `version`, creates the tables of the current schema and inserts the rows
+/// `tables`, or does nothing. After a crash the database is as it could be before the call, or
+/// completely rebuilt.
+///
+/// # Errors
+///
+/// - `InvalidQuery` if a number is 2^63 or higher
+/// - the error of SQLite if a table doesn't accept a row
+/// - any other error of the database, including out of memory
 pub fn remake<S: Alter>(
     conn: &mut Connection<S>,
     version: Version,

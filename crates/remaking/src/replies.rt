@@ -1,4 +1,4 @@
-//! Turns of remaking, kept replies and marks are put in, in an open transaction.
+//! Inserts remakes, kept replies and release marks, in an open transaction.
 ghost use Rattle.table_rows.specs.Tables.{with_mark, with_remake, with_reply};
 
 use crate::putting::{Put, fit};

@@ -1,4 +1,4 @@
--- What a new number's effect owes and leaves.
+-- Lemmas about the precondition and the result of a new number's effect.
 use Rattle.std.proofs.Common.{◌≡◌, ◌≤◌, ◌<◌, ◌^◌, ◌⊎◌, ℕ, true, false, List, [], ◌∷◌, ◌++◌, None, refl, sym, ap, ◌∙◌, subst, inl, inr, arith}
 use Rattle.std.specs.Prelude.{nat_le}
 use Rattle.std.proofs.lemmas.Bool.Decides.{nat_tests}
@@ -27,7 +27,7 @@ status_is (NumberReleased mark) = inr refl
 status_is (Faulty fault) = inr refl
 status_is _ = inl refl
 
--- the arrival's client and number in range
+-- the client and the number of the arrival are in range
 pub record IsNumbered (a : Arrived) : Type 0 where
   pub client : IsName a.client
   pub least : 1 ≤ a.number
@@ -37,14 +37,14 @@ module _ (c : Contents) (client : List ℕ) (number : ℕ) (ask : List ℕ) (sou
   abbrev at : Call → Arrived
   at call = record { client = client; number = number; ask = ask; request = call }
 
-  -- the entry of a reply, whatever was called for
+  -- the entry of a reply to this call
   abbrev entry : Reply → Entry
   entry reply = record { client = client; number = number; ask = ask; status = status_of reply; body = body_of reply }
 
   abbrev made : Facts → List Entry → Contents
   made f kept = record { facts = f; kept = kept; marks = c.marks }
 
-  -- a new entry stands above the marks, as the others do
+  -- the new entry is above the release marks, as all others are
   kept_all : (reply : Reply) → nat_le number (mark_of c.marks client) ≡ false
       → above c.marks (c.kept ++ entry reply ∷ []) ≡ c.kept ++ entry reply ∷ []
   kept_all reply live =
@@ -78,11 +78,11 @@ module _ (c : Contents) (client : List ℕ) (number : ℕ) (ask : List ℕ) (sou
       subst (λ (m : ℕ). IsOwedRelease m (entry reply) c) (sym d.3)
       (record { is_new = new; near = omega (arith, d.0, below); grows = omega arith; least = omega (arith, d.1) })
 
--- what was read and decided of a new number
+-- the number is new, and `reply` and `effect` are the decision
 abbrev pub IsDecided : Contents → Arrived → Reply → Effect → Type 0
 IsDecided c a reply effect = (is_released c.marks a ≡ false) × (entry_of c.kept a.client a.number ≡ None) × Decided c a.client a.number a.request reply effect
 
--- the reply is the arrival's own
+-- the decided reply is the arrival's own
 pub decided_reply : (c : Contents) (client : List ℕ) (number : ℕ) (call : Call) (reply : Reply) (effect : Effect) → Decided c client number call reply effect
     → reply_by c.facts c.marks client number call ≡ reply
 decided_reply c client number (Job r) reply (Changes change) d = ap (λ (p : Facts × Reply). p.1) d.step_is

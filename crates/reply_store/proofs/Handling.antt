@@ -1,4 +1,4 @@
--- The exits of the handling of an arrival.
+-- Lemmas about each way in which handling an arrival can end.
 use Rattle.std.proofs.Common.{◌≡◌, ◌⊎◌, [], ◌∷◌, true, false, Option, Some, None, Result, Ok, Err, IfOk, OnOk, OnErr, refl, sym, ap, ◌∙◌, subst, inl, inr, ⊎_elim, arith}
 use Rattle.std.specs.Prelude.{option_map}
 use Rattle.std.proofs.lemmas.Bool.{cond-true, cond-false, false≢true}
@@ -37,7 +37,7 @@ on_err {P = P} r p = elim r as (λ r. OnErr r P) [ Ok x ↦ tt | Err e ↦ p ]
 
 -- ---- an arrival that changes nothing
 
--- it gets this reply on these contents, and is no first
+-- the arrival gets this response for these contents, changes nothing, and doesn't have a new number
 abbrev pub IsAnswered : Contents → Arrived → Result Kept StoreFault → Type 0
 IsAnswered c a result = (contents_after c (a ∷ []) ≡ c) × (IsFirst c a → ⊥) × IfOk result (λ k. http_reply_on c a ≡ http_reply k)
 
@@ -52,7 +52,7 @@ handles_answered old new a result stays is = record {
   settled = on_ok result (λ h c d held first left. absurd ((is h c held).1 first));
 }
 
--- a store that failed, and stays
+-- the store returned a fault and is unchanged
 pub handles_stays : (old new : State) (a : Arrived) (fault : StoreFault) → Stays old new → Handles old new a (Err fault)
 handles_stays old new a fault stays = record {
   doubts = stays.doubts;
@@ -63,7 +63,7 @@ handles_stays old new a fault stays = record {
   settled = tt;
 }
 
--- a number that is released
+-- the number is released
 pub answered_released : (c : Contents) (a : Arrived) (k : Kept) → AreSound c → is_released c.marks a ≡ true
     → http_reply k ≡ http_reply_of (NumberReleased (mark_of c.marks a.client)) → IsAnswered c a (Ok k)
 answered_released c a k sound gone same =
@@ -73,7 +73,7 @@ answered_released c a k sound gone same =
       cond-true (is_released c.marks a) (http_reply_of (NumberReleased (mark_of c.marks a.client))) other gone ∙ sym same,
     )
 
--- a number that is kept
+-- the number is used
 pub answered_kept : (c : Contents) (a : Arrived) (k : Kept) (kept : KeptReply) → AreSound c → is_released c.marks a ≡ false
     → Some kept ≡ option_map reply_of_entry (entry_of c.kept a.client a.number) → ((e : Entry) → kept ≡ reply_of_entry e → http_reply k ≡ http_reply_by a.ask e) → IsAnswered c a (Ok k)
 answered_kept c a k kept sound live found same = at (entry_of c.kept a.client a.number) refl found
@@ -96,7 +96,7 @@ no_entry (Some e) is = absurd (none-some (reply_of_entry e) is)
 abbrev pub AreDecided : State → State → Arrived → Reply → Effect → Type 0
 AreDecided old mid a reply effect = IsHonest mid → (c : Contents) → old.holds c → AreSound c × IsDecided c a reply effect
 
--- what a new number gets
+-- the response to a new number
 answered_first : (c : Contents) (a : Arrived) (reply : Reply) (effect : Effect) → IsDecided c a reply effect → reply_to c.facts c.marks a ≡ reply → http_reply_on c a ≡ http_reply_of reply
 answered_first c a reply effect d is =
     let first : HttpReply = http_reply_of (reply_to c.facts c.marks a) in

@@ -1,4 +1,4 @@
--- One more arrival.
+-- Lemmas about one more arrival.
 use Rattle.std.proofs.Common.{◌≡◌, ◌⊎◌, ℕ, zero, suc, ◌+◌, ◌<◌, ◌≤◌, true, false, List, [], ◌∷◌, ◌++◌, length, get_or, map, take, Option, Some, None, Result, Ok, Err, IfOk, refl, sym, ap, ◌∙◌, subst, inl, inr, ⊎_elim, arith, append-nil}
 use Rattle.std.specs.List.{zip}
 use Rattle.std.specs.Prelude.{filter, is_ok, slice_get}
@@ -33,7 +33,7 @@ slice_get_end : (xs : List Tried) (t : Tried) → slice_get (xs ++ t ∷ []) (le
 slice_get_end [] t = refl
 slice_get_end (x ∷ xs) t = slice_get_end xs t
 
--- ---- what is left after one more
+-- ---- the contents after one more arrival
 
 pub after_true : (c : Contents) (tries : List Tried) (a : Arrived) → AreSound c → contents_after c (decided (tries ++ (a, true) ∷ [])) ≡ contents_after (contents_after c (decided tries)) (a ∷ [])
 after_true c tries a sound = ap (contents_after c) (decided-append tries ((a, true) ∷ [])) ∙ contents_after-append c (decided tries) (a ∷ []) sound.above
@@ -41,7 +41,7 @@ after_true c tries a sound = ap (contents_after c) (decided-append tries ((a, tr
 pub after_false : (c : Contents) (tries : List Tried) (a : Arrived) → contents_after c (decided (tries ++ (a, false) ∷ [])) ≡ contents_after c (decided tries)
 after_false c tries a = ap (contents_after c) (decided-append tries ((a, false) ∷ []) ∙ append-nil (decided tries))
 
--- where one more commits nothing, a crash may leave what it might have left
+-- if one more arrival commits nothing, a crash may leave what it could leave before
 left_more : (before : Option Contents → Type 0) (c : Contents) (d : Option Contents) (tries : List Tried) (t : Tried) → contents_after c (decided (tries ++ t ∷ [])) ≡ contents_after c (decided tries) → MayBeLeft before c tries d → MayBeLeft before c (tries ++ t ∷ []) d
 left_more before c d tries t same left =
     ⊎_elim (λ now. inl (subst (IsFound d) (sym same) now))
@@ -66,7 +66,7 @@ leaves_none s sound = record {
   crash = λ h c d held left. inr (inr (same_contents c (sound c held).above, left));
 }
 
--- a first, or one that leaves the contents
+-- an arrival has a new number, or it leaves the contents unchanged
 pub is_first : (c : Contents) (a : Arrived) → AreSound c → IsFirst c a ⊎ (contents_after c (a ∷ []) ≡ c)
 is_first c a sound = elim (cases_Bool (is_released c.marks a)) [
   | inl gone ↦ inr (contents_released c a sound.above gone)
@@ -114,7 +114,7 @@ leaves_stays s0 s1 s2 tries run stays = record {
   crash = λ h c d held left. run.crash (omega (arith, stays.doubts)) c d held (stays.crash h d left);
 }
 
--- ---- what is answered
+-- ---- the responses
 
 abbrev AnsweredAt : Contents → List Served → Served → Type 0
 AnsweredAt c before s = IfOk s.1 (λ k. http_reply_on (contents_after c (decided (tried before))) s.0 ≡ http_reply k)
@@ -165,7 +165,7 @@ zip_push [] (s ∷ rs) x r same = absurd (omega arith)
 zip_push (y ∷ xs) [] x r same = absurd (omega arith)
 zip_push (y ∷ xs) (s ∷ rs) x r same = ap (λ (l : List Served). (y, s) ∷ l) (zip_push xs rs x r (omega arith))
 
--- one more step of the loop
+-- one more iteration of the loop
 pub zip_more : (arrivals : List Arrival) (i : ℕ) (a : Arrival) (rs new : List (Result Kept StoreFault)) (r : Result Kept StoreFault) → i < length arrivals → a ≡ get_or arrivals i a → i ≡ length rs → new ≡ rs ++ r ∷ []
     → zip (map arrived (take (i + 1) arrivals)) new ≡ zip (map arrived (take i arrivals)) rs ++ (arrived a, r) ∷ []
 zip_more arrivals i a rs new r lt item count pushed =

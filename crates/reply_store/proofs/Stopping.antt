@@ -1,4 +1,5 @@
--- A stop at an arrival, an opening over what is left, and lists with such stops.
+-- Lemmas about a crash during an arrival, about opening the store afterwards, and about lists with
+-- such crashes.
 use Rattle.std.proofs.Common.{◌≡◌, ◌⊎◌, Bool, List, [], ◌∷◌, ◌++◌, true, false, Option, Some, Result, Ok, inl, inr, refl, sym, subst, append-nil, append_assoc}
 use Rattle.job_facts.specs.Contents.{AreSame, AreSound, Contents}
 use Rattle.job_facts.specs.Reopening.{FindsEither, OpensAfter, OpensWith, OpensWithEither}
@@ -25,7 +26,7 @@ module _ {S : Type 0} (state : S → State) (opened stopped : S) (c : Contents) 
   pub opens_whole : (again : S) → OpensAfter (state stopped) (state again) → OpensWithEither (state again) c (contents_after c (a ∷ []))
   opens_whole again after = (after.0, after.2, finds_whole (Some after.0) after.1)
 
--- one that was answered leaves the contents after it, and nothing else
+-- an arrival that got a reply leaves the contents after it, and a crash leaves only these
 answered : (old new : State) (c : Contents) (a : Arrived) (k : Kept) → AreSound c → OpensWith old c → Handles old new a (Ok k) → IsHonest new → OpensWith new (contents_after c (a ∷ []))
 answered old new c a k sound opens handles honest = record {
   holds = handles.ok honest c opens.holds;
@@ -38,10 +39,10 @@ answered old new c a k sound opens handles honest = record {
   ];
 }
 
--- ---- a list
+-- ---- lists
 
 module _ {S : Type 0} (state : S → State) (sound : (s : S) (c : Contents) → (state s).holds c → AreSound c) (alike : AreAnsweredAlike) (c : Contents) (fine : AreSound c) where
-  -- a store is opened with what these arrivals leave
+  -- a store is opened with the contents after the arrivals `earlier`
   abbrev pub Stands : S → List Arrived → Type 0
   Stands s earlier = (d : Contents) × OpensWith (state s) d × AreSame d (contents_after c earlier)
 
@@ -49,7 +50,7 @@ module _ {S : Type 0} (state : S → State) (sound : (s : S) (c : Contents) → 
   one_more earlier d a good same =
       subst (AreSame (contents_after d (a ∷ []))) (sym (contents_after-append c earlier (a ∷ []) fine.above)) (alike d (contents_after c earlier) a good same).1
 
-  -- the arrival is decided, or the server stopped at it
+  -- the arrival is decided, or the server crashed during it
   abbrev pub StandsBehind : S → List Arrived → Arrived → Bool → Type 0
   StandsBehind s earlier a stops = Stands s (earlier ++ a ∷ []) ⊎ ((stops ≡ true) × Stands s earlier)
 

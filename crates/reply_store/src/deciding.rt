@@ -1,4 +1,4 @@
-//! What a new number is answered, and what it does to the store.
+//! Decides a request with a new number: its reply, and its effect on the store.
 ghost use Rattle.std.specs.Prelude.{◌≡◌, ◌≤◌, ℕ, List};
 ghost use Rattle.job_facts.specs.Contents.{Contents, mark_of};
 ghost use Rattle.job_facts.specs.Requests.{IsCall};
@@ -11,17 +11,21 @@ use job_facts::{Call, Change, JobStore, Refusal, Reply, StoreFault};
 use std::alloc::Global;
 use store_data::Name;
 
-/// What a new number does to the store.
+/// The effect of a request with a new number on the store.
 #[derive(Clone, Copy)]
 pub(crate) enum Effect<'a> {
     /// A change of the facts.
     Changes { change: Change<'a> },
-    /// A new mark of its client, which drops what is kept up to it.
+    /// A new release mark of the client, which discards its kept replies up to the mark.
     Marks { upto: u64 },
 }
 
-/// What a new number's call is answered, and its effect, by its client's release mark. The store is
-/// only read.
+/// Returns the reply to `call` and its effect. `mark` is the client's release mark, and `number` is
+/// new. The store is only read.
+///
+/// # Errors
+///
+/// Returns the faults of the store, and `Memory` if an allocation fails.
 pub(crate) fn decide_call<'a, S: JobStore>(
     alloc: Global,
     store: &mut S,
@@ -46,7 +50,7 @@ pub(crate) fn decide_call<'a, S: JobStore>(
     }
 }
 
-// A release: its client's release mark never falls.
+// Decides a release. It never lowers the client's release mark.
 fn release(number: u64, upto: u64, mark: u64) -> (Reply, Effect<'static>)
     requires { 1 ≤ upto }
     ensures { (c : Contents) (client : List ℕ) → mark ≡ mark_of c.marks client

@@ -1,24 +1,25 @@
-//! Laws of arrivals in turn, and of stops. The functions do nothing; who calls one has its law.
+//! Lemmas about lists of arrivals and about crashes. The functions do nothing, and a caller gets
+//! the contract as a fact.
 ghost use Rattle.reply_store.specs.Runs.{AreLeftInTurn};
 ghost use Rattle.reply_store.specs.Stops.{AreFoundWhole, AreLeftWithStops};
 
 use job_facts::JobStore;
 
-/// What arrivals leave, each behind the one before it, is what a list of them leaves.
+/// Lemma: the contents after a list of arrivals can be proved one arrival at a time.
 pub fn left_in_turn<S: JobStore>()
     ensures { AreLeftInTurn S.state }
 {}
 
-/// Where the server stops at any moment of an arrival, an open finds the contents before the
-/// arrival or those after it, and is not refused. What is opened there has one of the two, and the
-/// next crash leaves that alone.
+/// Lemma: if the server crashes at any point while it handles an arrival, opening the store again
+/// succeeds and finds the contents before the arrival or after it. The store that is opened has
+/// these contents, and the next crash leaves only these.
 pub fn found_whole<S: JobStore>()
     ensures { AreFoundWhole S.state }
 {}
 
-/// Where the server stops at some of a list of arrivals, and a store is opened over what is left
-/// each time, the contents are those after the arrivals that were answered and some of the others,
-/// in their order, up to the order of what is a set.
+/// Lemma: if the server crashes during some of a list of arrivals, and a store is opened after each
+/// crash, the contents are those after all arrivals that got a reply and some of the others, in
+/// their order. Only the order of sets may differ.
 pub fn left_with_stops<S: JobStore>()
     ensures { AreLeftWithStops S.state }
 {

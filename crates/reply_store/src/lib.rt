@@ -1,5 +1,5 @@
-//! Requests that may come again: the first of each number acts, and each later one gets what is
-//! kept.
+//! Handles requests so that each request number has one effect: the first request with a number is
+//! decided, and a repeat gets the kept reply.
 #![tactic(auto)]
 
 ghost use Rattle.std.specs.Prelude.{◌≡◌, ◌≤◌, ◌<◌, ◌^◌, All, IfOk, OnErr, length, map};
@@ -24,14 +24,22 @@ use job_facts::{Arrival, Call, JobStore, KeptReply, Refusal, Reply, StoreFault};
 use std::alloc::{AllocError, Global};
 use store_data::Name;
 
-/// What became of an arrival.
+/// The outcome of an arrival: its response, or the fault of the store.
 pub type Outcome = Result<Kept, StoreFault>;
 
 #[tactic(auto, using(arrivals::proofs::Commands::call_hands_out_next))]
-/// Handles one arrival. A number up to its client's release mark gets `number-released`, and
-/// nothing is kept of it; a kept number gets its reply again, or `number-reused` where the ask is
-/// another; a new one is decided and kept, a refusal too. Errors: the store's faults, and refused
-/// memory as `Memory`; nothing is changed then.
+/// Handles one arrival of `client` with the request number `number` and the request bytes `ask`.
+///
+/// - If the number is released, the reply is `number-released`, and nothing is stored.
+/// - If the number is used with the same request bytes, the kept reply is returned.
+/// - If the number is used with different request bytes, the reply is `number-reused`, and nothing
+///   is stored.
+/// - If the number is new, `call` is decided and its reply is kept, even if it is a refusal.
+///
+/// # Errors
+///
+/// Returns the faults of the store, and `Memory` if an allocation fails. The contents are unchanged
+/// then, but a crash may still leave the arrival decided.
 pub fn handle<S: JobStore>(
     alloc: Global,
     store: &mut S,
@@ -50,7 +58,7 @@ pub fn handle<S: JobStore>(
           ask = ask.now;
           request = call.now;
         }) result }
-    // A law of the plain machine, whatever is answered: a command that it hands out is the next.
+    // A command in the reply is the next one of its record (a lemma about the reference model).
     ensures next { (c : Contents) → (S.state store.old).holds c
         → HandsOutNext c.facts (reply_by c.facts c.marks client.now number call.now) }
     ensures faults { CountsFaults (S.state store.old) (S.state store.new) result }
@@ -62,14 +70,18 @@ pub fn handle<S: JobStore>(
     if let Some(kept) = store.kept(client, number)? {
         return Ok(again(alloc, ask, kept)?);
     }
-    // The entry owes that the client is a name.
+    // The calls that store the reply require that the client is a name.
     store_data::laws::is_a_name(client);
     let (reply, effect) = decide_call(alloc, store, client, number, call, mark)?;
     settle(alloc, store, client, number, ask, &reply, &effect)
 }
 
-/// Handles arrivals in order. It takes the memory of its result first, and fails only where that is
-/// refused: then none was handled.
+/// Handles `arrivals` in order, and returns the outcome of each.
+///
+/// # Errors
+///
+/// Returns `AllocError` if the result can't be allocated. No arrival has been handled then, because
+/// the result is allocated first.
 pub fn run<S: JobStore>(
     alloc: Global,
     store: &mut S,
@@ -100,7 +112,7 @@ pub fn run<S: JobStore>(
     Ok(outcomes)
 }
 
-// What a number that is kept gets.
+// Returns the response to a request whose number is used.
 fn again(alloc: Global, ask: &[u8], kept: KeptReply) -> Result<Kept, AllocError>
     ensures { IfOk result (λ k. http_reply k ≡ http_reply_again ask.now kept) }
 {

@@ -1,4 +1,4 @@
-//! How what was decided of a new number is kept.
+//! Stores the decision of a request with a new number.
 ghost use Rattle.std.specs.Prelude.{◌≡◌, ◌<◌, ◌^◌, IfOk};
 ghost use Rattle.arrivals.specs.HttpReplies.{body_of, http_reply, http_reply_of, status_of};
 ghost use Rattle.job_facts.specs.Contents.{Entry};
@@ -11,7 +11,11 @@ use job_facts::{JobStore, Reply, StoreFault};
 use std::alloc::{AllocError, Global};
 use store_data::Name;
 
-/// What a client gets for a reply.
+/// Returns the response with `reply`.
+///
+/// # Errors
+///
+/// Returns `AllocError` if an allocation fails.
 pub(crate) fn http_reply_of(alloc: Global, reply: &Reply) -> Result<Kept, AllocError>
     ensures status { IfOk result (λ k. k.status ≡ status_of reply.now) }
     ensures body { IfOk result (λ k. k.body ≡ body_of reply.now) }
@@ -23,7 +27,12 @@ pub(crate) fn http_reply_of(alloc: Global, reply: &Reply) -> Result<Kept, AllocE
     })
 }
 
-/// Keeps the reply of a new number with its effect.
+/// Stores the reply of a request with a new number together with its effect, and returns the
+/// response.
+///
+/// # Errors
+///
+/// Returns the faults of the store, and `Memory` if an allocation fails.
 pub(crate) fn settle<S: JobStore>(
     alloc: Global,
     store: &mut S,

@@ -1,4 +1,5 @@
--- A product's blanks: no blank is charged twice, and each that is charged lies in a lot.
+-- Proves that each blank of a product is counted once: no blank is charged twice, and every charged
+-- blank is in a lot.
 use Rattle.std.proofs.Common.{◌≡◌, ◌≢◌, ◌^◌, ℕ, ◌+◌, ◌<◌, ◌≤◌, Bool, true, false, cond, List, [], ◌∷◌, ◌++◌, length, map, All, Some, refl, sym, ap, subst, ◌∙◌, arith}
 use Rattle.std.specs.Prelude.{⊤, bytes_eq, count_by, filter}
 use Rattle.std.specs.List.{flat_map}
@@ -27,7 +28,7 @@ has_kept q false l ls h = h
 none_true : false ≡ true → ⊥
 none_true h = subst (λ b. cond b ⊥ ⊤) h tt
 
--- a blank of the product is among the serials of its lots
+-- a blank of the product is among the serials of the product's lots
 among_lots : (p : List ℕ) (lots : List Lot) (q : ℕ) → is_lot_of p (lot_of lots q) ≡ true → has (flat_map serials_of (filter (λ (l : Lot). bytes_eq l.product p) lots)) q ≡ true
 among_lots p [] q h = absurd (none_true h)
 among_lots p (l ∷ lots) q h =
@@ -37,7 +38,7 @@ among_lots p (l ∷ lots) q h =
       | false ↦ λ outside own. has_kept q (bytes_eq l.product p) l rest (among_lots p lots q own)
     ] refl h
 
--- ---- what is charged
+-- ---- charged blanks
 
 one_state : (s : SessionState) → cond (is_good s) 1 0 + cond (is_running s) 1 0 + cond (is_spoiled s) 1 0 ≡ 1
 one_state Running = refl
@@ -67,7 +68,8 @@ length-states f p (s ∷ sessions) =
       | false ↦ length-states f p sessions
     ]
 
--- the charged blanks are as many as those of the product that an opening or a discard names
+-- the number of charged blanks is the number of the product's blanks that an `open` or a `discard`
+-- named
 charged_are : (f : Facts) (p : List ℕ) → charged (blank_totals f p) ≡ length (filter (is_blank_of f p) (charges f))
 unfolding blank_totals blank_states
 charged_are f p = omega (arith, each_state (blank_states f p), length-states f p f.sessions)
@@ -89,7 +91,7 @@ few_charged f p sound =
 pub all_counted : (f : Facts) (p : List ℕ) → IsSound f → AreAllCounted (blank_totals f p)
 all_counted f p sound = omega (arith, few_charged f p sound)
 
--- so few that the server's numbers have room for them
+-- the number of charged blanks fits in 64 bits
 pub charged_fits : (f : Facts) (p : List ℕ) → IsSound f → charged (blank_totals f p) < 2 ^ 64
 unfolding blank_totals
 charged_fits f p sound =

@@ -1,4 +1,4 @@
--- Each record of a batch stands in one of five ways.
+-- Proves that each record of a batch is in exactly one of five states.
 use Rattle.std.proofs.Common.{◌≡◌, ℕ, ◌+◌, cond, List, [], ◌∷◌, length, refl, arith}
 use Rattle.std.proofs.lemmas.List.Sums.{sum_by-cons}
 use Rattle.job_facts.specs.declared.facts.RecordState.{RecordState}
@@ -8,7 +8,7 @@ use Rattle.job_facts.specs.Facts.{Facts}
 use Rattle.job_facts.specs.States.{same_record_state}
 use Rattle.reports.specs.Accounts.{AreAllStanding}
 
--- 1 where a record stands so
+-- 1 if a record is in this state, otherwise 0
 abbrev one : RecordState → RecordState → ℕ
 one state s = cond (same_record_state state s) 1 0
 

@@ -1,4 +1,4 @@
--- The lines of a report.
+-- Lemmas about the lines of a report.
 use Rattle.std.proofs.Common.{◌≡◌, ℕ, ◌<◌, ◌^◌, List, Some, sym, ap, subst, ◌∙◌}
 use Rattle.job_facts.specs.declared.rows.BatchRow.{BatchRow}
 use Rattle.job_facts.specs.declared.rows.BatchTotals.{BatchTotals}

@@ -1,4 +1,4 @@
--- A number in its places, and what is pushed onto a text.
+-- Lemmas about right-aligned numbers, and about appending to a text.
 use Rattle.std.proofs.Common.{◌≡◌, ℕ, ◌-◌, ◌^◌, List, [], ◌∷◌, ◌++◌, length, sym, ap, ◌∙◌, arith, decimal, append_assoc, append-nil}
 use Rattle.std.specs.Prelude.{Result, Ok, Err, OnOk}
 use lib.Utf8.{encode}
@@ -19,9 +19,9 @@ right_in_10 n =
 pub line_is : (label number : List ℕ) → label ++ 32 ∷ (number ++ 10 ∷ []) ≡ ((label ++ 32 ∷ []) ++ number) ++ 10 ∷ []
 line_is label number = sym (append_assoc (label ++ 32 ∷ []) number (10 ∷ []) ∙ append_assoc label (32 ∷ []) (number ++ 10 ∷ []))
 
--- ---- what is pushed onto a text
+-- ---- appending to a text
 
--- one text, and then another
+-- appending two texts one after the other
 pub after : (s x y : List ℕ) {t u : List ℕ} → t ≡ s ++ x → u ≡ t ++ y → u ≡ s ++ (x ++ y)
 after s x y {t} {u} first second = second ∙ ap (λ r. r ++ y) first ∙ append_assoc s x y
 

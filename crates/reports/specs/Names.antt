@@ -1,4 +1,4 @@
--- The names that accounts and reports use (this project's profile).
+-- Defines the words for states in accounts and reports (this project's profile).
 use Rattle.std.specs.Prelude.{ℕ, Bool, true, false, List, codes}
 use Rattle.job_facts.specs.declared.facts.RecordState.{RecordState}
 use Rattle.job_facts.specs.declared.facts.RecordState.TheVariants.{Waiting, Running, Failed, Withdrawn, Good}

@@ -1,4 +1,4 @@
--- The JSON values of accounts.
+-- Defines the JSON values of accounts.
 use Rattle.std.specs.Prelude.{ℕ, ◌+◌, ◌-◌, List, codes}
 use Rattle.serde_json.specs.Data.{Data, boolean, string, object, member, no_members}
 use Rattle.job_facts.specs.declared.rows.BatchRow.{BatchRow}
@@ -13,7 +13,7 @@ batch_value b row t =
     (member (codes "running") (num t.running) (member (codes "sessions") (num t.sessions) (member (codes "spoiled") (num t.spoiled)
     (member (codes "waiting") (num t.waiting) (member (codes "withdrawn") (num t.withdrawn) no_members)))))))))))
 
--- the sum of these four
+-- the number of charged blanks
 abbrev pub charged : BlankTotals → ℕ
 charged t = t.good + t.running + t.spoiled + t.discarded
 

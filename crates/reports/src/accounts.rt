@@ -1,4 +1,4 @@
-//! The texts of accounts: compact JSON (RFC 8259), members in order of their names.
+//! Writes accounts as compact JSON (RFC 8259), with the members sorted by name.
 ghost use Rattle.std.specs.Prelude.{◌≡◌, ◌<◌, ◌^◌, IfOk};
 ghost use Rattle.serde_json.specs.View.{view};
 ghost use Rattle.reports.specs.Accounts.{batch_text, blank_text};
@@ -10,7 +10,11 @@ use serde_json::{Value, json};
 use std::alloc::{AllocError, Global};
 use store_data::{Bytes, Name};
 
-/// The account of a batch.
+/// Returns the account of the batch `batch`.
+///
+/// # Errors
+///
+/// Returns `AllocError` if an allocation fails.
 pub(crate) fn batch_text(
     alloc: Global,
     batch: &Name,
@@ -23,7 +27,11 @@ pub(crate) fn batch_text(
     Ok(Bytes::from_vec(text.into_bytes()))
 }
 
-/// The account of a product's blanks.
+/// Returns the account of the blanks of the product `product`.
+///
+/// # Errors
+///
+/// Returns `AllocError` if an allocation fails.
 pub(crate) fn blank_text(
     alloc: Global,
     product: &Name,
@@ -59,7 +67,8 @@ fn batch_value(
     })
 }
 
-// The blanks of a sound store are far below 2^64.
+// The saturating operations never saturate, because the number of blanks of a sound store is far
+// below 2^64.
 fn blank_value(alloc: Global, product: &Name, totals: &BlankTotals) -> Result<Value, AllocError>
     ensures { IfOk result
         (λ v. charged totals.now < 2 ^ 64 → view v ≡ blank_value product.now totals.now) }

@@ -1,18 +1,18 @@
-//! Why an account or a report is not given.
+//! The error of an account or a report.
 ghost use Rattle.std.specs.Prelude.{◌≡◌};
 
 use job_facts::{Refusal, StoreFault};
 use std::alloc::AllocError;
 use text_io::WriteFailed;
 
-/// Why an account or a report is not given.
+/// The reason why an account or a report isn't returned.
 #[derive(Clone, Copy, Debug, PartialEq, Eq)]
 pub enum AccountFault {
-    /// There is no such batch or product.
+    /// The batch or product doesn't exist.
     Refused(Refusal),
-    /// The store did not answer, or memory was refused.
+    /// The store returned a fault, or an allocation failed.
     Store(StoreFault),
-    /// A write failed, or took nothing.
+    /// The writer failed or took no bytes.
     Write,
 }
 

@@ -27,9 +27,13 @@ use std::io::Write;
 use store_data::{Bytes, Name};
 use text_io::write_text;
 
-/// The account of a batch, in JSON: its records by their states, its sessions, and how many of
-/// these are spoiled. Errors: 56 for a batch that is not there, the store's faults, and refused
-/// memory as `Memory`.
+/// Returns the account of the batch `batch` in JSON: the number of records in each state, of
+/// sessions, and of spoiled sessions.
+///
+/// # Errors
+///
+/// - `Refused`: refusal 56, the batch doesn't exist.
+/// - `Store`: a fault of the store, or `Memory` if an allocation fails.
 #[tactic(auto, using(crate::proofs::RecordLemmas::all_standing))]
 pub fn batch_counts<S: JobStore>(
     alloc: Global,
@@ -50,8 +54,13 @@ pub fn batch_counts<S: JobStore>(
     Ok(batch_text(alloc, batch, &row, &totals)?)
 }
 
-/// The account of a product's blanks, in JSON: each is free, good, running, spoiled or discarded.
-/// Errors: 52 for a product that is not there, the store's faults, and refused memory as `Memory`.
+/// Returns the account of the blanks of the product `product` in JSON. Each blank is free, good,
+/// running, spoiled or discarded.
+///
+/// # Errors
+///
+/// - `Refused`: refusal 52, the product doesn't exist.
+/// - `Store`: a fault of the store, or `Memory` if an allocation fails.
 pub fn blank_counts<S: JobStore>(
     alloc: Global,
     store: &mut S,
@@ -72,9 +81,14 @@ pub fn blank_counts<S: JobStore>(
     Ok(blank_text(alloc, product, &totals)?)
 }
 
-/// Writes the report of a batch: lines for the batch, for each record in file order, and for its
-/// totals. Errors: 56 for a batch that is not there, the store's faults, and refused memory as
-/// `Memory`, with nothing written; `Write` where the writer fails, with a beginning written.
+/// Writes the report of the batch `batch`: lines for the batch, for each record in file order, and
+/// for the totals.
+///
+/// # Errors
+///
+/// - `Refused`: refusal 56, the batch doesn't exist. Nothing is written.
+/// - `Store`: a fault of the store, or `Memory` if an allocation fails. Nothing is written.
+/// - `Write`: the writer fails. Only a prefix is written.
 pub fn close_report<S: JobStore, W: Write>(
     alloc: Global,
     store: &mut S,
@@ -94,8 +108,12 @@ pub fn close_report<S: JobStore, W: Write>(
     Ok(())
 }
 
-/// The text of a batch's close report. Errors: the batch is unknown (refusal 56), the store's
-/// faults, and refused memory.
+/// Returns the text of the report of the batch `batch`.
+///
+/// # Errors
+///
+/// - `Refused`: refusal 56, the batch doesn't exist.
+/// - `Store`: a fault of the store, or `Memory` if an allocation fails.
 pub fn report_of<S: JobStore>(
     alloc: Global,
     store: &mut S,

@@ -1,10 +1,10 @@
-//! The names that accounts and reports use.
+//! The words for states in accounts and reports.
 ghost use Rattle.std.specs.Prelude.{◌≡◌};
 ghost use Rattle.reports.specs.Names.{closed_name, state_name};
 
 use job_facts::RecordState;
 
-/// The name of a record's state (this project's profile).
+/// Returns the word for the state of a record (this project's profile).
 pub(crate) fn state_name(state: RecordState) -> &'static str
     ensures { result.now ≡ state_name state }
 {
@@ -17,7 +17,7 @@ pub(crate) fn state_name(state: RecordState) -> &'static str
     }
 }
 
-/// Whether a batch is closed, as reports name it (this project's profile).
+/// Returns the word for the state of a batch in reports (this project's profile).
 pub(crate) fn closed_name(is_closed: bool) -> &'static str
     ensures { result.now ≡ closed_name is_closed }
 {

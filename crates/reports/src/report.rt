@@ -1,4 +1,4 @@
-//! The text of a batch's report: lines for the batch, for each record, and for its totals.
+//! The text of a batch's report, with lines for the batch, for each record, and for the totals.
 ghost use Rattle.std.specs.Prelude.{◌≡◌, ◌++◌, IfOk, OnOk, string_bytes};
 ghost use Rattle.reports.specs.Report.{head_text, labelled, record_text, text_with, totals_text};
 
@@ -8,7 +8,11 @@ use job_facts::{BatchRow, BatchTotals, RecordLine};
 use std::alloc::{AllocError, Global};
 use store_data::Name;
 
-/// The report of a batch with these records, in file order. Errors: refused memory.
+/// Returns the report of the batch `batch`. `lines` are its records in file order.
+///
+/// # Errors
+///
+/// Returns `AllocError` if an allocation fails.
 pub fn report_text(
     alloc: Global,
     batch: &Name,
@@ -28,7 +32,7 @@ pub fn report_text(
     Ok(text)
 }
 
-// The batch, its product, and whether it is closed.
+// Appends the name, the product and the state of the batch.
 #[tactic(auto, unfolding(crate::specs::Report::head_text))]
 fn push_head(text: &mut String, batch: &Name, row: &BatchRow) -> Result<(), AllocError>
     ensures { OnOk result
@@ -40,7 +44,8 @@ fn push_head(text: &mut String, batch: &Name, row: &BatchRow) -> Result<(), Allo
     writeln!(text, "batch {name}\nproduct {product}\nstate {state}")
 }
 
-// A record's name, its state, the number of its sessions and the serial of its good card.
+// Appends the name and the state of a record, the number of its sessions, and the serial of its
+// good card.
 #[tactic(auto, unfolding(crate::specs::Report::record_text))]
 fn push_record(text: &mut String, line: &RecordLine) -> Result<(), AllocError>
     ensures { OnOk result (string_bytes text.new ≡ string_bytes text.old ++ record_text line.now) }
@@ -54,7 +59,7 @@ fn push_record(text: &mut String, line: &RecordLine) -> Result<(), AllocError>
     }
 }
 
-// Each label stands left in 9 places, each number right in 10.
+// Appends the totals. Labels are left-aligned in 9 columns, and numbers right-aligned in 10.
 fn push_totals(text: &mut String, totals: &BatchTotals) -> Result<(), AllocError>
     ensures { OnOk result
         (string_bytes text.new ≡ string_bytes text.old ++ totals_text totals.now) }

@@ -1,4 +1,4 @@
--- The rows of a batch's records in file order, and the first that waits.
+-- The rows of the records of a batch in file order, and its first waiting record.
 use Rattle.std.proofs.Common.{◌≡◌, ℕ, ◌+◌, ◌<◌, ◌==◌, Bool, true, false, ◌&&◌, List, get_or, map, All, Option, Some, None, refl, sym, ap, ◌∙◌, arith}
 use Rattle.std.specs.Prelude.{AllPairs, filter, find, option_and_then, option_map}
 use Rattle.std.specs.List.{enumerate_from, position_or_len}
@@ -18,7 +18,7 @@ use Rattle.row_laws.proofs.RecordRows.{equal_self, names_are}
 module _ (f : Facts) where
   -- ---- file order
 
-  -- rows of one batch stand by place
+  -- The rows of one batch are in ascending order of `place`.
   abbrev InOrder : StoredRecord → StoredRecord → Type 0
   InOrder x y = x.batch ≡ y.batch → x.place < y.place
 
@@ -58,7 +58,7 @@ module _ (f : Facts) where
       (All-map (λ (r : StoredRecord). is_record_of id r ≡ true) (stored_record f (id, batch)) (placed_records f (id, batch)) (λ k d within. equal_self id))
       ∙ ap (λ names. map (stored_record f (id, batch)) (enumerate_from 0 names)) (names_are f b batch there)
 
-  -- ---- the first that waits
+  -- ---- the first waiting record
 
   others_waiting : (id : ℕ) (e : ℕ × Batch) → (e.0 == id) ≡ false → All (λ (r : StoredRecord). is_waiting_of id r ≡ false) (records_in f e)
   others_waiting id e miss = All-map (λ (r : StoredRecord). is_waiting_of id r ≡ false) (stored_record f e) (placed_records f e) (λ k d within. and_left (e.0 == id) _ miss)

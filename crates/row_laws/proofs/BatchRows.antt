@@ -1,4 +1,4 @@
--- The rows of batches by name and by id, and how their batches stand.
+-- Look-ups of batches by name and by id, and the counters of batches.
 use Rattle.std.proofs.Common.{◌≡◌, ℕ, ◌+◌, ◌≤◌, ◌==◌, Bool, true, false, cond, ◌&&◌, List, [], ◌∷◌, length, map, All, Option, Some, None, refl, sym, ap, ◌∙◌, arith}
 use Rattle.std.specs.Prelude.{bytes_eq, find, option_map}
 use Rattle.std.specs.List.{list_all, position_or_len}
@@ -26,7 +26,7 @@ use Rattle.row_laws.proofs.Finding.{AllPairs-map, AllPairs-numbered, find-map, f
 
 -- ---- counts of states
 
--- each record has one of the five states
+-- Each record has exactly one of the five states.
 one_state : (s : RecordState)
     → cond {A = ℕ} (same_record_state rec.Waiting s) 1 0 + cond {A = ℕ} (same_record_state rec.Running s) 1 0 + cond {A = ℕ} (same_record_state rec.Failed s) 1 0
     + cond {A = ℕ} (same_record_state rec.Withdrawn s) 1 0 + cond {A = ℕ} (same_record_state rec.Good s) 1 0 ≡ 1
@@ -124,7 +124,7 @@ module _ (f : Facts) where
   unfolding stored_batches
   id_row n b there = find-map (is_batch (batch_id f.batches n)) (stored_batch f) (batches_by_id f) ∙ ap (option_map (stored_batch f)) (batch_at n b there)
 
-  -- ---- how they stand
+  -- ---- counters
 
   five : (n : List ℕ) → (batch_totals f n).records ≡ (batch_totals f n).waiting + (batch_totals f n).running + (batch_totals f n).failed + (batch_totals f n).withdrawn + (batch_totals f n).good
   unfolding batch_totals
@@ -134,7 +134,7 @@ module _ (f : Facts) where
   totals_are n b there =
       ap (batch_totals f) (sym (own_name n b there)) ∙ ap (λ (k : ℕ). let t : BatchTotals = batch_totals f b.name in record t { records = k }) (five b.name)
 
-  -- a session's batch is there
+  -- A batch that doesn't exist has no sessions.
   no_session : IsSound f → (n : List ℕ) → batch_named f.batches n ≡ None → All (λ (s : Session). bytes_eq s.batch n ≡ false) f.sessions
   no_session sound n none =
       All-weaker (IsSession f) (λ (s : Session). bytes_eq s.batch n ≡ false)

@@ -1,5 +1,5 @@
--- What the row of a batch gives of it: its product, its bytes, and how many rows and records it
--- has.
+-- The values in the row of a batch: its product, its bytes, and the numbers of its rows and
+-- records.
 use Rattle.std.proofs.Common.{◌≡◌, ℕ, false, List, length, map, Option, Some, None, refl, sym, ap, ◌∙◌}
 use Rattle.std.specs.Prelude.{bytes_eq, find, option_map, unwrap_or}
 use Rattle.std.specs.List.{list_any}
@@ -54,7 +54,7 @@ module _ (f : Facts) (b : List ℕ) where
       has_in_rows raw ∙ raw_tested raw (find (is_batch_named b) (stored_batches f))
       ∙ sym (any_beside (is_batch_named b) (λ (x : StoredBatch). bytes_eq x.raw raw) (stored_batches f) (name_once f sound b))
 
-  -- the records of its rows are its records
+  -- The number of records that the rows form is the number of different record names.
   grouped_many : (rows : List Row) → length (records_of_rows rows) ≡ length (first_appearances (map (λ (row : Row). row.rec) rows))
   unfolding grouped
   grouped_many rows = length-map _ _ ∙ ap (λ keys. length (first_appearances keys)) (keys_of_numbered 2 rows)

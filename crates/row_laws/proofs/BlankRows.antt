@@ -1,4 +1,4 @@
--- The rows of blanks by serial, and those of lots by name and by range.
+-- Look-ups of blanks by serial, and of lots by name and by range.
 use Rattle.std.proofs.Common.{◌≡◌, ◌≢◌, ℕ, ◌==◌, Bool, true, false, ◌||◌, List, [], ◌∷◌, ◌++◌, get_or, map, Option, Some, None, inl, inr, refl, sym, ap, ◌∙◌, subst, arith}
 use Rattle.std.specs.Prelude.{AllPairs, bytes_eq, find, is_some, option_map}
 use Rattle.std.specs.List.{list_any}
@@ -99,7 +99,7 @@ module _ (f : Facts) where
   pub overlaps_found : (first count : ℕ) → any_overlaps f.lots first count ≡ is_some (find (is_lot_across first count) (stored_lots f))
   overlaps_found first count = overlaps_in_rows first count ∙ sym (is_some_found (is_lot_across first count) (stored_lots f))
 
-  -- the lot of a blank under its name
+  -- A look-up of the name of the lot that contains a blank finds this lot.
   pub own_name_found : IsSound f → (serial : ℕ) (l : Lot) → lot_of f.lots serial ≡ Some l → lot_named f.lots l.name ≡ Some l
   own_name_found sound serial l at =
       found_also (λ (m : Lot). bytes_eq m.name l.name) (is_in serial) f.lots l (named_once (λ (m : Lot). m.name) f.lots l.name sound.named.lots.once) at (bytes_eq-same l.name)

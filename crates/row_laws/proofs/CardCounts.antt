@@ -1,4 +1,4 @@
--- How many of a record's sessions are spoiled, and how many have a card.
+-- The number of spoiled sessions of a record, and of sessions that are good or running.
 use Rattle.std.proofs.Common.{◌≡◌, ℕ, ◌+◌, ◌≤◌, Bool, true, false, cond, List, [], ◌∷◌, length, inl, inr, refl, sym, ap, ◌∙◌, arith}
 use Rattle.std.specs.Prelude.{count_by}
 use Rattle.std.specs.List.{list_any}
@@ -40,14 +40,15 @@ two_cards (t ∷ states) = omega (
   sum_by-cons (λ s. cond {A = ℕ} (is_running s) 1 0) t states,
 )
 
--- ---- a record's good session, or its running one
+-- ---- the good or running session of a record
 
--- the session of a record that stands so, where that is with a card
+-- A sound record has one session with the state `state` if it has the state `stands`, and otherwise
+-- no such session.
 abbrev pub IsCardOf : SessionState → RecordState → Type 0
 IsCardOf state stands = (states : List SessionState) (withdrawn : Bool) (remakes : ℕ) → IsSoundRecord states withdrawn remakes
     → count_by (same_session_state state) states ≡ one (same_record_state stands (state_by states withdrawn remakes))
 
--- where one session at most passes a test, they count as one or none
+-- If at most one session satisfies `q`, the number of such sessions is 1 or 0.
 counted_once : (q : SessionState → Bool) (states : List SessionState) → count_by q states ≤ 1 → count_by q states ≡ one (list_any q states)
 counted_once q states most = elim (cases_Bool (list_any q states)) [
   | inl some ↦
@@ -56,7 +57,8 @@ counted_once q states most = elim (cases_Bool (list_any q states)) [
   | inr none ↦ count_by_none q states none ∙ sym (ap one none)
 ]
 
--- a record's state, by whether it has a good session, a running one, and so on
+-- the state of a record: whether it has a good session, whether it has a running one, whether it is
+-- withdrawn, and whether it failed
 abbrev state_where : Bool → Bool → Bool → Bool → RecordState
 state_where good runs withdrawn failed = cond good rec.Good (cond runs rec.Running (cond withdrawn rec.Withdrawn (cond failed rec.Failed rec.Waiting)))
 

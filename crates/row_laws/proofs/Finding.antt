@@ -1,4 +1,4 @@
--- What is found by a key, in lists that are mapped, numbered or joined.
+-- Look-ups by a key in lists that are mapped, numbered or concatenated.
 use Rattle.std.proofs.Common.{◌≡◌, ℕ, zero, suc, ◌+◌, ◌<◌, ◌≤◌, ◌==◌, ◌&&◌, ◌||◌, Bool, true, false, cond, List, [], ◌∷◌, ◌++◌, get_or, map, All, Option, Some, None, inl, inr, refl, sym, ap, ◌∙◌, arith}
 use Rattle.std.specs.Prelude.{AllPairs, count_by, filter, find, option_map, slice_get, unwrap_or}
 use Rattle.std.specs.List.{enumerate_from, flat_map, list_any, position_or_len}
@@ -51,7 +51,8 @@ module _ {X : Type 0} (R : X → X → Type 0) where
   AllPairs-from_map f (w ∷ ws) pairs =
       AllPairs-cons (λ v w. R (f v) (f w)) w ws (All-from_map f (R (f w)) ws (pairs_head (f w) (map f ws) pairs)) (AllPairs-from_map f ws (pairs_tail (f w) (map f ws) pairs))
 
-  -- joined, where what is of an earlier one stands before what is of a later one
+  -- the pairs of concatenated lists, if every element of an earlier list is in relation to every
+  -- element of a later one
   pub AllPairs-joined : {W : Type 0} (Q : W → W → Type 0) (g : W → List X) → ((w : W) → AllPairs R (g w)) → ((v w : W) → Q v w → All (λ x. All (R x) (g w)) (g v))
       → (ws : List W) → AllPairs Q ws → AllPairs R (flat_map g ws)
   AllPairs-joined Q g own across [] pairs = pairs_nil
@@ -59,14 +60,14 @@ module _ {X : Type 0} (R : X → X → Type 0) where
       AllPairs-append (g w) (flat_map g ws) (own w) (AllPairs-joined Q g own across ws (λ i j d before within. pairs (suc i) (suc j) d (omega arith) (omega arith)))
       (λ k d within. All-joined (R (get_or (g w) k d)) g ws (λ i e inside. across w (get_or ws i e) (pairs 0 (suc i) e (omega arith) (omega arith)) k d within))
 
-  -- with their numbers
+  -- the pairs of a numbered list
   pub AllPairs-numbered : (n : ℕ) (xs : List X) → AllPairs R xs → AllPairs (λ (d e : ℕ × X). R d.1 e.1) (enumerate_from n xs)
   AllPairs-numbered n [] pairs = λ i j d before within. absurd (omega arith)
   AllPairs-numbered n (x ∷ xs) pairs =
       AllPairs-cons (λ (d e : ℕ × X). R d.1 e.1) (n, x) (enumerate_from (n + 1) xs) (All-numbered (R x) (n + 1) xs (pairs_head x xs pairs))
       (AllPairs-numbered (n + 1) xs (pairs_tail x xs pairs))
 
--- ---- what passes
+-- ---- filters and look-ups
 
 module _ {X : Type 0} (p : X → Bool) where
   pub filter_all : (xs : List X) → All (λ x. p x ≡ true) xs → filter p xs ≡ xs
@@ -75,7 +76,7 @@ module _ {X : Type 0} (p : X → Bool) where
       let hit : p x ≡ true = All-head (λ y. p y ≡ true) x xs all in
       cond-true (p x) (x ∷ filter p xs) (filter p xs) hit ∙ ap (λ ys. x ∷ ys) (filter_all xs (All-tail (λ y. p y ≡ true) x xs all))
 
-  -- tests that agree at each
+  -- Two predicates that agree on all elements find the same element.
   pub find_alike : (q : X → Bool) (xs : List X) → All (λ x. p x ≡ q x) xs → find p xs ≡ find q xs
   find_alike q [] alike = refl
   find_alike q (x ∷ xs) alike =
@@ -88,7 +89,8 @@ module _ {X : Type 0} (p : X → Bool) where
     | false ↦ find-filter q xs
   ]
 
-  -- whether the one that passes passes another test too
+  -- An element satisfies `p` and `q` if and only if the only element that satisfies `p` satisfies
+  -- `q`.
   pub any_beside : (q : X → Bool) (xs : List X) → PassesOnce p xs → list_any (λ x. p x && q x) xs ≡ unwrap_or (option_map q (find p xs)) false
   any_beside q [] once = refl
   any_beside q (x ∷ xs) once = elim (cases_Bool (p x)) [
@@ -98,7 +100,7 @@ module _ {X : Type 0} (p : X → Bool) where
     | inr miss ↦ rw miss (any_beside q xs (λ i j d before within. once (suc i) (suc j) d (omega arith) (omega arith)))
   ]
 
-  -- what another test finds is found, where it passes and no other does
+  -- If the element that `q` finds is the only one that satisfies `p`, then `p` also finds it.
   pub found_also : (q : X → Bool) (xs : List X) (x : X) → PassesOnce p xs → find q xs ≡ Some x → p x ≡ true → find p xs ≡ Some x
   found_also q [] x once is passes = absurd (cc)
   found_also q (y ∷ xs) x once is passes = elim (cases_Bool (q y)) [
@@ -125,7 +127,7 @@ module _ {X : Type 0} (p : X → Bool) where
         | inr miss ↦ All-cons (λ y. p y ≡ false) x xs miss (none_counted xs (omega arith))
       ]
 
-  -- where at most one counts
+  -- A count of at most 1 means that at most one element satisfies `p`.
   pub once_from_count : (xs : List X) → count_by p xs ≤ 1 → PassesOnce p xs
   once_from_count [] few = λ i j d before within. absurd (omega arith)
   once_from_count (x ∷ xs) few =
@@ -139,17 +141,17 @@ module _ {X : Type 0} (p : X → Bool) where
         | inr miss ↦ AllPairs-cons alone x xs (λ k d within passes. absurd (both_ways (p x) miss passes)) (once_from_count xs (omega arith))
       ]
 
--- ---- mapped
+-- ---- mapped lists
 
 module _ {X Y : Type 0} (p : Y → Bool) (f : X → Y) where
   pub find-map : (xs : List X) → find p (map f xs) ≡ option_map f (find (λ x. p (f x)) xs)
   find-map [] = refl
   find-map (x ∷ xs) = elim (cases_Bool (p (f x))) [ inl hit ↦ rw hit refl | inr miss ↦ rw miss (find-map xs) ]
 
--- ---- numbered
+-- ---- numbered lists
 
 module _ {X : Type 0} where
-  -- by number
+  -- a look-up by number
   pub number_found : (m i n : ℕ) (xs : List X) → m ≡ n + i → find (λ (e : ℕ × X). e.0 == m) (enumerate_from n xs) ≡ option_map (λ x. (m, x)) (slice_get xs i)
   number_found m i n [] is = refl
   number_found m zero n (x ∷ xs) is =
@@ -166,7 +168,7 @@ module _ {X : Type 0} where
       let miss : (n == m) ≡ false = grind (arith, nat_tests) in
       cond-false (n == m) (Some (n, x)) (find (λ (e : ℕ × X). e.0 == m) (enumerate_from (n + 1) xs)) miss ∙ number_before m (n + 1) xs (omega arith)
 
-  -- each number stands once
+  -- Each number occurs at most once.
   pub number_once : (m n : ℕ) (xs : List X) → PassesOnce (λ (e : ℕ × X). e.0 == m) (enumerate_from n xs)
   number_once m n [] = λ i j d before within. absurd (omega arith)
   number_once m n (x ∷ xs) =
@@ -179,7 +181,7 @@ module _ {X : Type 0} where
           All-cons (λ (e : ℕ × X). (k == m) ≡ true → (e.0 == m) ≡ false) (n, x) (enumerate_from (n + 1) xs)
           (λ hit. grind (arith, nat_tests)) (later k m (n + 1) xs (omega arith))
 
-  -- the numbers rise
+  -- The numbers increase strictly.
   pub numbers_rise : (n : ℕ) (xs : List X) → AllPairs (λ (d e : ℕ × X). d.0 < e.0) (enumerate_from n xs)
   numbers_rise n [] = λ i j d before within. absurd (omega arith)
   numbers_rise n (x ∷ xs) =
@@ -201,7 +203,7 @@ module _ {X : Type 0} where
         | false ↦ kept_numbered p (n + 1) xs
       ]
 
-  -- by what is numbered
+  -- a look-up by the numbered element
   pub found_numbered : (p : X → Bool) (n : ℕ) (xs : List X) → find (λ (e : ℕ × X). p e.1) (enumerate_from n xs) ≡ option_map (λ x. (n + position_or_len p xs, x)) (find p xs)
   found_numbered p n [] = refl
   found_numbered p n (x ∷ xs) = elim (cases_Bool (p x)) [
@@ -213,7 +215,7 @@ module _ {X : Type 0} where
         rw miss (found_numbered p (n + 1) xs ∙ ap (λ k. option_map (λ y. (k, y)) (find p xs)) on)
   ]
 
--- ---- joined: the rows of each element stand under its own key
+-- ---- concatenated lists: each element has rows with its own key
 
 module _ {X Y : Type 0} (p : Y → Bool) (q : X → Bool) (f : X → List Y) (others : (x : X) → q x ≡ false → All (λ y. p y ≡ false) (f x)) where
   none_joined : (xs : List X) → All (λ x. q x ≡ false) xs → All (λ y. p y ≡ false) (flat_map f xs)
@@ -233,7 +235,7 @@ module _ {X Y : Type 0} (p : Y → Bool) (q : X → Bool) (f : X → List Y) (ot
         | inr miss ↦ λ i d within k e inside passes. absurd (both_ways _ (others x miss i d within) passes)
       ])
 
-  -- what is found stands among the rows of the one
+  -- A look-up finds a row of the element with this key.
   pub found_joined : (xs : List X) (x : X) → PassesOnce q xs → find q xs ≡ Some x → find p (flat_map f xs) ≡ find p (f x)
   found_joined [] x once is = absurd (cc)
   found_joined (y ∷ xs) x once is = elim (cases_Bool (q y)) [
@@ -250,7 +252,7 @@ module _ {X Y : Type 0} (p : Y → Bool) (q : X → Bool) (f : X → List Y) (ot
       alone None = refl
       alone (Some y) = refl
 
-  -- and so what is kept
+  -- A filter keeps only rows of the element with this key.
   pub kept_joined : (xs : List X) (x : X) → PassesOnce q xs → find q xs ≡ Some x → filter p (flat_map f xs) ≡ filter p (f x)
   kept_joined [] x once is = absurd (cc)
   kept_joined (y ∷ xs) x once is = elim (cases_Bool (q y)) [

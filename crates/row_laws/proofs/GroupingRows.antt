@@ -1,4 +1,4 @@
--- The rows of groupings for a record, read back as the rows of its batch file, and its plan.
+-- The rows of `grouping2` for a record, read back as rows of its batch file, and its plan.
 use Rattle.std.proofs.Common.{◌≡◌, ℕ, ◌<◌, ◌==◌, Bool, true, false, ◌&&◌, List, [], get_or, length, map, All, Option, Some, None, inl, inr, refl, sym, ap, ◌∙◌, subst, arith}
 use Rattle.std.specs.Prelude.{AllPairs, bytes_eq, filter, find, option_and_then, option_map, slice_get}
 use Rattle.std.specs.List.{enumerate_from, list_any}
@@ -54,7 +54,7 @@ place_alike names m n at_m at_n = elim (cases_Bool (bytes_eq m n)) [
 module _ (f : Facts) where
   -- ---- file order
 
-  -- rows of one batch stand by line
+  -- The rows of one batch are in ascending order of `line`.
   abbrev InOrder : StoredGrouping → StoredGrouping → Type 0
   InOrder x y = x.batch ≡ y.batch → x.line < y.line
 
@@ -76,7 +76,7 @@ module _ (f : Facts) where
       let second : (get_or rows j d).batch ≡ id = of_batch (get_or rows j d) (filter_passes p (stored_groupings f) j d within) in
       AllPairs-filter InOrder p (stored_groupings f) groupings_ordered i j d before within (first ∙ sym second)
 
-  -- ---- the rows for one record
+  -- ---- the rows of a record
 
   others_at : (id place : ℕ) (e : ℕ × Batch) → (e.0 == id) ≡ false → All (λ (g : StoredGrouping). is_grouping_at id place g ≡ false) (groupings_in f e)
   others_at id place e miss =

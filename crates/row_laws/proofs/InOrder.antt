@@ -1,5 +1,5 @@
--- Rows in the order of a number: those of a list whose numbers rise, in any order in which none
--- falls, are that list.
+-- A permutation of a list with strictly increasing numbers whose numbers never decrease is the list
+-- itself.
 use Rattle.std.proofs.Common.{◌≡◌, ℕ, suc, ◌<◌, ◌≤◌, ◌==◌, Bool, true, false, cond, List, [], ◌∷◌, All, Some, inl, inr, refl, sym, ap, ◌∙◌, subst, arith, IsPermutation}
 use Rattle.std.specs.Prelude.{AllPairs, count_by, find}
 use Rattle.std.proofs.lemmas.Bool.{cases_Bool, cond-false, cond-true}
@@ -18,7 +18,8 @@ module _ {X : Type 0} (key : X → ℕ) where
   abbrev at : ℕ → X → Bool
   at k x = key x == k
 
-  -- as many of each number, and the same that is found by it
+  -- Both lists have each number equally often, and a look-up of a number finds the same element in
+  -- both.
   record AreAlike (xs ys : List X) : Type 0 where
     counts : (k : ℕ) → count_by (at k) xs ≡ count_by (at k) ys
     finds : (k : ℕ) → find (at k) xs ≡ find (at k) ys
@@ -41,7 +42,7 @@ module _ {X : Type 0} (key : X → ℕ) where
             absurd (omega (arith, below, above))
       ]
 
-  -- each later number is another
+  -- No later element has the number of the first one.
   later_apart : (y : X) (ys : List X) (k : ℕ) → All (λ z. key y < key z) ys → (key y == k) ≡ true → All (λ z. at k z ≡ false) ys
   later_apart y ys k less hit = All-weaker (λ z. key y < key z) (λ z. at k z ≡ false) (λ z below. grind (arith, nat_tests)) ys less
 

@@ -1,4 +1,4 @@
--- The lines of a batch's records, by the rows of its records and its good sessions.
+-- The lines of the records of a batch, from the rows of its records and good sessions.
 use Rattle.std.proofs.Common.{◌≡◌, ℕ, ◌+◌, ◌<◌, ◌==◌, Bool, true, false, ◌&&◌, List, get_or, length, map, All, Option, Some, None, inl, inr, refl, sym, ap, ◌∙◌, subst, arith}
 use Rattle.std.specs.Prelude.{AllPairs, bytes_eq, count_by, filter, find, option_map, slice_get}
 use Rattle.std.specs.List.{enumerate_from, list_any, position_or_len}
@@ -63,7 +63,7 @@ module _ (f : Facts) where
             both_ways (bytes_eq b c) differ (ap (bytes_eq b) (sym same) ∙ bytes_eq-same b)) ∙ sym differ
       ]
 
-  -- ---- how many sessions a record has
+  -- ---- the number of sessions of a record
 
   states_many : (b r : List ℕ) → length (sessions_of f b r) ≡ length (states_of f b r)
   unfolding states_of
@@ -75,7 +75,7 @@ module _ (f : Facts) where
       let counted = cards_counted (states_of f b r) (is_withdrawn f b r) (remakes_of f b r) (sound.states.records b r) in
       omega (arith, states_many b r, spoiled_or_card (states_of f b r), counted)
 
-  -- ---- the blank of its good session
+  -- ---- the blank of the good session of a record
 
   module _ (b r : List ℕ) (batch : Batch) (there : batch_named f.batches b ≡ Some batch) (among : list_any (bytes_eq r) (records_named f b) ≡ true) where
     abbrev id : ℕ
@@ -84,7 +84,7 @@ module _ (f : Facts) where
     abbrev place : ℕ
     place = place_in (records_named f b) r
 
-    -- by its row
+    -- The session is selected by ids and places; in `by_names`, by names.
     abbrev by_row : Session → Bool
     by_row s = ((batch_id f.batches s.batch == id) && is_good (session_state f s)) && (place_in (records_named f s.batch) s.rec == place)
 
@@ -135,7 +135,7 @@ module _ (f : Facts) where
         ap (λ m. count_by is_spoiled (states_of f m r) + cards (record_state f m r)) own ∙ sym (sessions_many sound b r) in
         λ i. record { rec = r; stands = stands i; sessions = many i; blank = blank i }
 
-  -- ---- all of a batch
+  -- ---- all lines of a batch
 
   pub lines_there : IsSound f → (b : List ℕ) (batch : Batch) → batch_named f.batches b ≡ Some batch
       → map (line_of (filter (is_good_of (batch_id f.batches b)) (stored_sessions f))) (filter (is_record_of (batch_id f.batches b)) (stored_records f)) ≡ map (record_line f b) (records_named f b)

@@ -1,4 +1,4 @@
--- The rows of records by name and by place.
+-- Look-ups of records by name and by place.
 use Rattle.std.proofs.Common.{◌≡◌, ℕ, ◌+◌, ◌==◌, Bool, true, false, cond, ◌&&◌, List, [], ◌∷◌, map, All, Option, Some, None, refl, sym, ap, ◌∙◌, subst, arith}
 use Rattle.std.specs.Prelude.{AllPairs, bytes_eq, count_by, find, if◌then◌else◌, option_and_then, option_map, slice_get}
 use Rattle.std.specs.List.{enumerate_from, list_any}
@@ -28,7 +28,7 @@ use Rattle.row_laws.specs.RowValues.{place_of, record_row}
 use Rattle.row_laws.proofs.BatchRows.{batch_at, named_row, own_name, totals_are}
 use Rattle.row_laws.proofs.Finding.{AllPairs-map, AllPairs-numbered, find-map, found_joined, found_numbered, number_found, number_once, once_joined}
 
--- ---- names of one batch
+-- ---- the names of one batch
 
 distinct_once : (names : List (List ℕ)) → Distinct names → AllPairs (λ (m k : List ℕ). bytes_eq m k ≡ false) names
 distinct_once [] distinct = λ i j d before within. absurd (omega arith)
@@ -49,7 +49,7 @@ mapped_cond g false x = refl
 pub equal_self : (n : ℕ) → (n == n) ≡ true
 equal_self n = grind (arith, nat_tests)
 
--- the name among names, with its place
+-- A look-up of a name finds the name with its place.
 found_place : (n : List ℕ) (names : List (List ℕ))
     → find (λ (r : ℕ × List ℕ). bytes_eq r.1 n) (enumerate_from 0 names) ≡ cond (list_any (bytes_eq n) names) (Some (place_in names n, n)) None
 found_place n names =
@@ -64,7 +64,7 @@ pub name_at : (n : List ℕ) (names : List (List ℕ)) → list_any (bytes_eq n)
 name_at n names among =
     sym (find_at (bytes_eq n) names) ∙ find_same bytes_eq-Decides n names ∙ cond-true (list_any (bytes_eq n) names) (Some n) None among
 
--- the place among places
+-- A look-up of the place of a name finds this name.
 found_at : (n : List ℕ) (names : List (List ℕ)) → list_any (bytes_eq n) names ≡ true
     → find (λ (r : ℕ × List ℕ). r.0 == place_in names n) (enumerate_from 0 names) ≡ Some (place_in names n, n)
 found_at n names among =
@@ -149,7 +149,7 @@ module _ (f : Facts) where
       ∙ subst (λ names. list_any (bytes_eq n) names ≡ true → find (is_record_at id (place_in names n)) (records_in f (id, batch)) ≡ Some (stored_record f (id, batch) (place_in names n, n)))
       (names_are b batch there) (at_in id n batch) among
 
-  -- ---- what the rows give
+  -- ---- values in the rows
 
   pub state_in_rows : (b r : List ℕ) → record_state_of f b r ≡ option_map (λ (x : StoredRecord). x.state) (record_row (stored_batches f) (stored_records f) b r)
   unfolding record_state_of
@@ -196,7 +196,7 @@ module _ (f : Facts) where
           subst (λ y. IsPlaceOf f b r (place_of row y)) second.1
           (subst (λ y. IsPlaceOf f b r (place_of y (stored_record f e (place_in (records_named f b) r, r)))) first (place_is b r batch is))
 
-  -- a record that stands has its rows
+  -- If a record exists, its row and the row of its batch exist.
   pub rows_there : (b r : List ℕ) (state : RecordState) → record_state_of f b r ≡ Some state
       → (row : StoredBatch) × (x : StoredRecord) × (find (is_batch_named b) (stored_batches f) ≡ Some row) × (find (is_record_named row.id r) (stored_records f) ≡ Some x)
   rows_there b r state is =

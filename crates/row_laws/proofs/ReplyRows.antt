@@ -1,4 +1,4 @@
--- The rows of replies by client and number, and those of marks by client.
+-- Look-ups of kept replies by client and request number, and of release marks by client.
 use Rattle.std.proofs.Common.{◌≡◌, ℕ, ◌==◌, true, false, List, get_or, map, sym, ap, ◌∙◌}
 use Rattle.std.specs.Prelude.{bytes_eq}
 use Rattle.std.proofs.lemmas.Bool.{and_from, and_parts, both_ways, eq-eqb, eqb-true, false_from_ne_true}

@@ -1,4 +1,4 @@
--- How many rows there are, and their ids.
+-- The numbers of rows, and their ids.
 use Rattle.std.proofs.Common.{◌≡◌, ℕ, ◌+◌, ◌≤◌, ◌<◌, List, [], ◌∷◌, All, length, map, refl, sym, ap, ◌∙◌, subst, arith}
 use Rattle.std.specs.List.{enumerate_from, range_with_len}
 use Rattle.std.proofs.lemmas.List.{length-map}
@@ -28,7 +28,7 @@ module _ (f : Facts) where
   unfolding stored_batches
   batch_ids = map-map (λ (b : StoredBatch). b.id) (stored_batch f) (batches_by_id f) ∙ numbers_are 1 f.batches
 
-  -- the last id is the number of rows
+  -- The last id is the number of rows.
   pub session_ids_within : All (λ (s : StoredSession). (1 ≤ s.id) × (s.id ≤ length f.sessions)) (stored_sessions f)
   unfolding stored_sessions
   session_ids_within = All-map (λ (s : StoredSession). (1 ≤ s.id) × (s.id ≤ length f.sessions)) (stored_session f) (sessions_by_id f) (ids_within f.sessions)

@@ -1,4 +1,4 @@
--- The rows of sessions by number, with the names of their records, and by machine.
+-- Look-ups of sessions by number and by machine, and the names of their records.
 use Rattle.std.proofs.Common.{◌≡◌, ℕ, zero, suc, ◌+◌, Bool, true, false, ◌&&◌, List, [], ◌∷◌, Option, Some, None, refl, sym, ap, ◌∙◌, subst, arith}
 use Rattle.std.specs.Prelude.{bytes_eq, find, option_and_then, option_map, slice_get}
 use Rattle.std.specs.List.{enumerate_from}
@@ -37,7 +37,7 @@ module _ (f : Facts) where
       ∙ ap (option_map (stored_session f)) (number_found (suc i) i 1 f.sessions (omega arith))
       ∙ option_map-map (stored_session f) (λ (x : Session). (suc i, x)) (slice_get f.sessions i)
 
-  -- ---- the rows of its batch and its record
+  -- ---- the rows of its batch and record
 
   module _ (id : ℕ) (x : Session) (is : IsSession f x) where
     abbrev own_batch : StoredBatch

@@ -1,4 +1,4 @@
--- A product's blanks, by the rows of its lots and its batches.
+-- The counters of the blanks of a product, from the rows of its lots and batches.
 use Rattle.std.proofs.Common.{◌≡◌, ℕ, suc, ◌+◌, ◌≤◌, Bool, true, false, ◌&&◌, List, [], ◌∷◌, get_or, length, map, All, Option, Some, None, inl, inr, refl, sym, ap, ◌∙◌, arith}
 use Rattle.std.specs.Prelude.{AllPairs, bytes_eq, count_by, filter, sum_by}
 use Rattle.std.specs.List.{list_any}
@@ -35,9 +35,9 @@ use Rattle.row_laws.proofs.RecordRows.{names_once}
 pub sum_by-map : {X Y : Type 0} (g : Y → ℕ) (h : X → Y) (xs : List X) → sum_by g (map h xs) ≡ sum_by (λ x. g (h x)) xs
 sum_by-map g h xs = fold-map (λ a y. a + g y) h 0 xs
 
--- ---- one name among names
+-- ---- a name in a list of names
 
--- where it stands once it counts once
+-- A name occurs at most once in a list without duplicates.
 one_name : (r : List ℕ) (names : List (List ℕ)) → AllPairs (λ (m k : List ℕ). bytes_eq m k ≡ false) names → count_by (bytes_eq r) names ≤ 1
 one_name r [] once = omega arith
 one_name r (n ∷ names) once =
@@ -55,13 +55,13 @@ one_name r (n ∷ names) once =
           omega (arith, sum, none, rest)
     ]
 
--- with tests that are no matter of the name
+-- the count of a name, combined with conditions that don't depend on the name
 name_beside : (r : List ℕ) (b q : Bool) (names : List (List ℕ)) → (b ≡ true → count_by (bytes_eq r) names ≡ 1) → count_by (λ n. (b && bytes_eq r n) && q) names ≡ one (b && q)
 name_beside r true q names once = count_beside (bytes_eq r) true q names (once refl)
 name_beside r false q names once = sum_by_nothing names
 
 module _ (f : Facts) (sound : IsSound f) where
-  -- ---- a batch's sessions, record by record
+  -- ---- the sessions of a batch, record by record
 
   named_once_of : (n : List ℕ) → AllPairs (λ (m k : List ℕ). bytes_eq m k ≡ false) (records_named f n)
   named_once_of n = by_batch (batch_named f.batches n)

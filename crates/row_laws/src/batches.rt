@@ -1,4 +1,4 @@
-//! Batches by name and by id, and how they stand.
+//! Lemmas about look-ups of batches by name and by id, and about the values in their rows.
 ghost use Rattle.std.specs.Prelude.{◌≡◌, ℕ, List, Some, find, option_map};
 ghost use Rattle.std.specs.List.{list_any};
 ghost use Rattle.job_facts.specs.Accounts.{batch_totals};
@@ -13,7 +13,7 @@ ghost use Rattle.image_laws.specs.Image.{stored_groupings};
 ghost use Rattle.table_rows.specs.Keys.{is_batch, is_batch_named, is_batch_with};
 ghost use Rattle.table_rows.specs.Tables.{PassesOnce};
 
-/// A name finds the row of the batch that has it.
+/// Lemma: a look-up of a name in the rows finds exactly the batch with this name.
 pub fn batches_by_name()
     ensures once { (f : Facts) (n : List ℕ) → IsSound f
         → PassesOnce (is_batch_named n) (stored_batches f) }
@@ -23,7 +23,7 @@ pub fn batches_by_name()
         (batch_named f.batches n) }
 {}
 
-/// A batch's id finds its row.
+/// Lemma: a look-up of the id of a batch in the rows finds exactly this batch.
 pub fn batches_by_id()
     ensures once { (f : Facts) (id : ℕ) → PassesOnce (is_batch id) (stored_batches f) }
     ensures found { (f : Facts) (n : List ℕ) (b : Batch) → batch_named f.batches n ≡ Some b
@@ -31,7 +31,8 @@ pub fn batches_by_id()
         ≡ Some (stored_batch f (batch_id f.batches n, b)) }
 {}
 
-/// A batch's row gives its totals, and whether it is finished.
+/// Lemma: the row of a batch has its counters, and shows whether all its records are good or
+/// withdrawn.
 pub fn totals_by_rows()
     ensures totals { (f : Facts) (n : List ℕ) → IsSound f
         → batch_totals f n ≡ totals_in (find (is_batch_named n) (stored_batches f)) }
@@ -39,8 +40,8 @@ pub fn totals_by_rows()
         → is_batch_finished f n ≡ is_over_in (find (is_batch_named n) (stored_batches f)) }
 {}
 
-/// A batch's row gives its product and whether it is closed, its bytes, and with the rows of its
-/// groupings how many rows and records it has.
+/// Lemma: the row of a batch has its product and its bytes, and shows whether it is closed.
+/// Together with the rows of its groupings, it shows how many rows and records the batch has.
 pub fn batches_by_rows()
     ensures row { (f : Facts) (b : List ℕ)
         → batch_row_of f b ≡ option_map batch_of_row (find (is_batch_named b) (stored_batches f)) }

@@ -1,4 +1,4 @@
-//! Blanks by serial, and lots by name and by range.
+//! Lemmas about look-ups of blanks by serial, and of lots by name and by range.
 ghost use Rattle.std.specs.Prelude.{◌≡◌, ℕ, List, Some, find, is_some, map, option_map};
 ghost use Rattle.std.specs.List.{list_any};
 ghost use Rattle.job_facts.specs.declared.facts.Lot.{Lot as LotValue};
@@ -10,7 +10,7 @@ ghost use Rattle.step_laws.specs.Sums.{discarded_in};
 ghost use Rattle.table_rows.specs.Keys.{is_blank, is_lot_across, is_lot_around, is_lot_named};
 ghost use Rattle.table_rows.specs.Tables.{PassesOnce, StoredLot};
 
-/// A serial has one row of a blank at most, and one just where it is charged.
+/// Lemma: a serial has a row in `blank` if and only if it is charged, and never more than one.
 pub fn blanks_by_serial()
     ensures once { (f : Facts) (n : ℕ) → IsSound f → PassesOnce (is_blank n) (stored_blanks f) }
     ensures charged { (f : Facts) (n : ℕ)
@@ -19,7 +19,8 @@ pub fn blanks_by_serial()
         → is_charged f n ≡ is_some (find (is_blank n) (stored_blanks f)) }
 {}
 
-/// A name finds the row of the lot that has it, which gives how many of its blanks are discarded.
+/// Lemma: a look-up of a name in the rows finds exactly the lot with this name, with the number of
+/// its discarded blanks.
 pub fn lots_by_name()
     ensures once { (f : Facts) (n : List ℕ) → IsSound f
         → PassesOnce (is_lot_named n) (stored_lots f) }
@@ -33,8 +34,8 @@ pub fn lots_by_name()
         → (lot_named f.lots n ≡ Some row.lot) × (row.discarded ≡ discarded_in f row.lot) }
 {}
 
-/// A serial finds the row of the lot that it lies in, and a range those that share a serial with
-/// it.
+/// Lemma: a look-up of a serial in the rows finds exactly the lot that contains it. A look-up of a
+/// range of serials finds a lot if and only if a lot contains one of them.
 pub fn lots_by_range()
     ensures once { (f : Facts) (serial : ℕ) → IsSound f
         → PassesOnce (is_lot_around serial) (stored_lots f) }

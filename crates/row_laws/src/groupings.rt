@@ -1,4 +1,4 @@
-//! The rows of batch files, and plans.
+//! Lemmas about the rows of `grouping2`, and about plans.
 ghost use Rattle.std.specs.Prelude.{◌≡◌, ◌<◌, ℕ, List, length, map, filter, AllPairs, Some};
 ghost use Rattle.std.specs.Prelude.{bytes_eq};
 ghost use Rattle.std.specs.List.{enumerate_from};
@@ -13,7 +13,8 @@ ghost use Rattle.image_laws.specs.Image.{stored_groupings, stored_records};
 ghost use Rattle.table_rows.specs.Keys.{is_grouping_at, is_grouping_of};
 ghost use Rattle.table_rows.specs.Tables.{StoredGrouping};
 
-/// The rows for a record, by rising lines, give its rows of its batch's file.
+/// Lemma: the rows of `grouping2` for a record, in the order of `line`, are its rows in the batch
+/// file. A batch has one row of `grouping2` for each row of its file.
 pub fn groupings_by_place()
     ensures rows { (f : Facts) (b r : List ℕ) (batch : Batch)
         → batch_named f.batches b ≡ Some batch → IsRecord f b r
@@ -37,7 +38,7 @@ pub fn groupings_by_place()
         ≡ length (rows_of f.products batch) }
 {}
 
-/// The rows of a batch, a record and its groupings give the record's plan.
+/// Lemma: the rows of a batch, a record and its groupings determine the plan of the record.
 pub fn plans_by_rows()
     ensures { (f : Facts) (b r : List ℕ) → plan_for f b r
         ≡ plan_in f.products (stored_batches f) (stored_records f) (stored_groupings f) b r }

@@ -1,4 +1,4 @@
-//! What the rows of an image answer to a look-up by key.
+//! Lemmas about the rows of an image: what a look-up by a key finds, and which values it returns.
 #![tactic(auto)]
 
 mod accounts;

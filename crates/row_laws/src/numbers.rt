@@ -1,12 +1,11 @@
-//! How many rows there are.
+//! A lemma about the numbers of rows.
 ghost use Rattle.std.specs.Prelude.{◌≡◌, ◌≤◌, All, length, map};
 ghost use Rattle.std.specs.List.{range_with_len};
 ghost use Rattle.job_facts.specs.Facts.{Facts};
 ghost use Rattle.image_laws.specs.Image.{stored_batches, stored_lots, stored_sessions};
 ghost use Rattle.table_rows.specs.Tables.{StoredBatch, StoredSession};
 
-/// There is a row for each session, batch and lot; the ids of sessions and batches begin at 1 and
-/// go up by one.
+/// Lemma: each session, batch and lot has one row, and the ids of sessions and batches are 1, 2, ..
 pub fn numbers_of_rows()
     ensures sessions { (f : Facts) → length f.sessions ≡ length (stored_sessions f) }
     ensures session_ids { (f : Facts) → map (λ (s : StoredSession). s.id) (stored_sessions f)

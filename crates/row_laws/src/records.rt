@@ -1,4 +1,4 @@
-//! Records by name and by place.
+//! Lemmas about look-ups of records by name and by place.
 ghost use Rattle.std.specs.Prelude.{◌≡◌, ◌<◌, ℕ, List, map, filter, find, AllPairs, Some, None};
 ghost use Rattle.std.specs.Prelude.{bytes_eq, if◌then◌else◌, option_map};
 ghost use Rattle.std.specs.List.{enumerate_from, list_any};
@@ -15,8 +15,8 @@ ghost use Rattle.table_rows.specs.Keys.{is_batch_named, is_record_at, is_record_
 ghost use Rattle.table_rows.specs.Keys.{is_record_of, is_waiting_of};
 ghost use Rattle.table_rows.specs.Tables.{PassesOnce, StoredBatch, StoredRecord};
 
-/// A record's name with the id of its batch finds its row, which gives its state, and with its
-/// batch's row its place.
+/// Lemma: a look-up of the name of a record and the id of its batch finds exactly this record. Its
+/// row has its state and, together with the row of its batch, its place.
 pub fn records_by_name()
     ensures once { (f : Facts) (id : ℕ) (n : List ℕ)
         → PassesOnce (is_record_named id n) (stored_records f) }
@@ -39,7 +39,7 @@ pub fn records_by_name()
         × (find (is_record_named row.id r) (stored_records f) ≡ Some x) }
 {}
 
-/// A record's place with the id of its batch finds its row.
+/// Lemma: a look-up of the place of a record and the id of its batch finds exactly this record.
 pub fn records_by_place()
     ensures once { (f : Facts) (id place : ℕ)
         → PassesOnce (is_record_at id place) (stored_records f) }
@@ -51,8 +51,8 @@ pub fn records_by_place()
         (place_in (records_named f b) n, n)) }
 {}
 
-/// The rows of a batch's records stand in file order, by rising places, and the first that waits
-/// gives its name.
+/// Lemma: the rows of the records of a batch are in file order, with increasing places, and the
+/// first waiting one has the name of the first waiting record.
 pub fn records_of_batches()
     ensures rows { (f : Facts) (b : List ℕ) (batch : Batch) → batch_named f.batches b ≡ Some batch
         → filter (is_record_of (batch_id f.batches b)) (stored_records f)

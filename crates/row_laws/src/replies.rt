@@ -1,4 +1,4 @@
-//! Replies by client and number, and marks by client.
+//! A lemma about look-ups of kept replies and release marks.
 ghost use Rattle.std.specs.Prelude.{ℕ, List, map};
 ghost use Rattle.job_facts.specs.Contents.{AreSound, Contents, Mark, has_mark};
 ghost use Rattle.job_facts.specs.Sound.{AreNamedOnce};
@@ -6,7 +6,8 @@ ghost use Rattle.image_laws.specs.Image.{image};
 ghost use Rattle.table_rows.specs.Keys.{is_reply_to};
 ghost use Rattle.table_rows.specs.Tables.{PassesOnce};
 
-/// A number of a client has one row of a reply at most, and a client one of a mark.
+/// Lemma: a request number of a client has at most one kept reply, and a client at most one release
+/// mark.
 pub fn replies_by_number()
     ensures once { (c : Contents) (client : List ℕ) (number : ℕ) → AreSound c
         → PassesOnce (is_reply_to client number) (image c).replies }

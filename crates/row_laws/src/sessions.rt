@@ -1,4 +1,4 @@
-//! Sessions by number and by machine.
+//! Lemmas about look-ups of sessions by number and by machine.
 ghost use Rattle.std.specs.Prelude.{◌≡◌, ℕ, List, Some, find, option_map};
 ghost use Rattle.job_facts.specs.Facts.{Facts, Session};
 ghost use Rattle.job_facts.specs.Rows.{session_row_of};
@@ -11,8 +11,8 @@ ghost use Rattle.image_laws.specs.Image.{stored_sessions};
 ghost use Rattle.table_rows.specs.Keys.{is_batch, is_record_at, is_running_on, is_session};
 ghost use Rattle.table_rows.specs.Tables.{PassesOnce, StoredBatch, StoredRecord, StoredSession};
 
-/// A session's number finds its row, and this the rows of its batch and its record, which give
-/// their names and its record's place.
+/// Lemma: a look-up of the number of a session finds exactly this session. Its row leads to the
+/// rows of its batch and record, which have their names and the place of the record.
 pub fn sessions_by_number()
     ensures once { (f : Facts) (id : ℕ) → PassesOnce (is_session id) (stored_sessions f) }
     ensures found { (f : Facts) (id : ℕ) → find (is_session id) (stored_sessions f)
@@ -33,7 +33,7 @@ pub fn sessions_by_number()
         × (find (is_record_at s.batch s.place) (stored_records f) ≡ Some r) }
 {}
 
-/// A machine has one row of a running session at most, which gives its number.
+/// Lemma: a machine has at most one row of a running session, which has the number of this session.
 pub fn running_sessions_by_machine()
     ensures once { (f : Facts) (machine : List ℕ) → IsSound f
         → PassesOnce (is_running_on machine) (stored_sessions f) }

@@ -1,4 +1,4 @@
--- What is answered of products and marks.
+-- Lemmas about reads of products and release marks.
 use Rattle.std.proofs.Common.{◌≡◌, ◌==◌, ℕ, pos, ◌&&◌, Bool, true, false, List, [], ◌∷◌, map, Option, Some, None, refl, ap, ◌∙◌}
 use Rattle.std.specs.Prelude.{bytes_eq, find, option_map, unwrap_or}
 use Rattle.std.specs.Option.{option_to_list}
@@ -25,11 +25,11 @@ use Rattle.row_reads.proofs.Asking.{asked, one_found, shown_row}
 use Rattle.row_reads.proofs.Looking.{one_answered}
 use Rattle.row_reads.proofs.Meanings.{mark_asks, product_asks}
 
--- the one test of WHERE, that a text is the parameter
+-- the only condition: a text is equal to the parameter
 pub text_key : (key name : List ℕ) → (is_true (binary (Compare Eq Binary) (Text name) (Text key)) && true) ≡ bytes_eq name key
 text_key key name = alone (is_true (binary (Compare Eq Binary) (Text name) (Text key))) ∙ same_text name key
 
--- or a number
+-- the only condition: a number is equal to the parameter
 pub int_key : (key n : ℕ) → (is_true (binary (Compare Eq Binary) (Int (pos n)) (Int (pos key))) && true) ≡ (n == key)
 int_key key n = alone (is_true (binary (Compare Eq Binary) (Int (pos n)) (Int (pos key)))) ∙ same_int n key
 

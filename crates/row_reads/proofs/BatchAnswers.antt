@@ -1,4 +1,4 @@
--- What is answered of batches and of charged blanks.
+-- Lemmas about reads of batches and of charged blanks.
 use Rattle.std.proofs.Common.{◌≡◌, ℕ, ◌&&◌, ◌==◌, nat_le, int_cmp, inl, inr, Bool, true, false, List, [], ◌∷◌, map, Option, Some, pos, refl, ap, ◌∙◌, subst, arith}
 use Rattle.std.proofs.lemmas.Bool.{cases_Bool}
 use Rattle.std.proofs.lemmas.Bool.Decides.{nat_tests}
@@ -34,7 +34,7 @@ use Rattle.row_reads.proofs.Asking.{Asks, all_found, any_found, asked, one_found
 use Rattle.row_reads.proofs.Sorting.{asked_sorted, first_of_one, greatest_found}
 use Rattle.row_reads.proofs.NameMeanings.{last_batch_asks, batches_of_asks, charged_asks, batch_has_asks, batch_head_asks, batch_id_asks, batch_name_asks, batch_by_name_asks}
 
--- the rows with this name
+-- the rows with the name `name`
 named : (text : List ℕ) (project : List Term) → Asks text 5 by_batch_name project → (name : List ℕ) (old new : State) (rows : List Row) → Shown text (Text name ∷ []) old new rows
     → (t : Tables) → IsImage t old.now → IsPermutation (map (λ b. shown_row true project (Text name ∷ []) (batch_row b)) (filter (is_batch_named name) t.batches)) rows
 named text project asks name old new rows h t image =

@@ -1,4 +1,4 @@
--- What is answered of records and sessions, where one row at most is.
+-- Lemmas about reads of sessions and records that return at most one row.
 use Rattle.std.proofs.Common.{◌≡◌, ℕ, ◌==◌, ◌&&◌, true, false, List, [], ◌∷◌, map, Option, refl}
 use Rattle.std.specs.Prelude.{find, option_map}
 use Rattle.sqlite.specs.Collation.TheVariants.{Binary}

@@ -1,4 +1,4 @@
--- What the resolver reads in the texts that read records, groupings and sessions.
+-- The parsed queries of the statements in CardTexts.antt.
 use Rattle.std.proofs.Common.{List, ℕ, true, false, [], ◌∷◌, codes, refl}
 use Rattle.sqlite.specs.Listing.{understood}
 use Rattle.sqlite.specs.Term.{col}

@@ -1,4 +1,4 @@
--- What count(*) over one of our tables answers.
+-- Lemmas about the result of `count(*)` over one table.
 use Rattle.std.proofs.Common.{◌≡◌, ℕ, true, false, List, [], ◌∷◌, codes, length, map, pos, Some, refl, sym, ap, subst, ◌∙◌}
 use Rattle.std.specs.Prelude.{filter}
 use Rattle.std.specs.List.{AllZip, list_all}
@@ -26,7 +26,7 @@ use Rattle.sql_rows.specs.Image.{IsImage}
 use Rattle.row_reads.specs.Counts.{count_of_tree, in_one_group, reply_count_text, row_count, shown_count}
 use Rattle.row_reads.specs.Decoding.{first_number}
 
--- at our schema the text asks how many rows this tree has
+-- At the current schema, the text is a query for the number of rows of the tree `tree`.
 pub record AsksCount (text : List ℕ) (tree : ℕ) : Type 0 where
   pub names : List (List ℕ)
   pub is : command_of (understood our_schema text) ≡ Select (record { lets = []; body = count_of_tree tree }) names
@@ -37,7 +37,7 @@ pub reply_count_asks : AsksCount reply_count_text 19
 unfolding understood everything
 reply_count_asks = record { names = codes "count(*)" ∷ []; is = refl; plain = (refl, refl); unlisted = refl }
 
--- what stands beside one alone is one alone
+-- a list that is paired with a list of one element has one element
 beside_one : {X Y : Type 0} (P : X → Y → Type 0) (x : X) (ys : List Y) → AllZip P (x ∷ []) ys → (y : Y) × (ys ≡ y ∷ []) × P x y
 beside_one P x [] h = absurd h
 beside_one P x (y ∷ []) h = (y, refl, h.0)
@@ -46,7 +46,7 @@ beside_one P x (y ∷ z ∷ ys) h = absurd h.1
 abbrev one_number : ℕ → List Row
 one_number n = (Int (pos (shown_count n)) ∷ []) ∷ []
 
--- the one row of the one group
+-- the row of the only group
 summary_row : (group : List Env) (row : Row) → IsSummary in_one_group group row → row ≡ Int (pos (shown_count (length group))) ∷ []
 summary_row group row h =
     let one = beside_one (λ (a : Aggregate) (v : Value). value_over group a ≡ Some v) row_count h.0 h.1 in

@@ -1,4 +1,4 @@
--- What a query over one table shows of the rows that fill it.
+-- Lemmas about what a query over one table shows of the table's rows.
 use Rattle.std.proofs.Common.{◌≡◌, suc, Bool, List, [], ◌∷◌, map, Option, Some, None, inl, inr, refl, sym, ap, subst, ◌∙◌, arith}
 use Rattle.std.specs.Prelude.{filter, find}
 use Rattle.std.specs.List.Sorted.{IsPermutation}
@@ -14,7 +14,7 @@ use Rattle.sql_base.proofs.Selecting.{map_map, map_same}
 use Rattle.table_rows.specs.Tables.{PassesOnce}
 use Rattle.table_rows.proofs.Found.{filter_none}
 
--- a stored row is seen with its rowid or without
+-- a stored row, shown with or without its rowid
 module _ {X : Type 0} (encode : X → Row) (view : Row → Row) (hit hit_seen : Row → Bool) (key : X → Bool) (show show_seen : Row → Row) (given : X → Row)
     (hit_is : (r : Row) → hit r ≡ hit_seen (view r)) (show_is : (r : Row) → show r ≡ show_seen (view r))
     (key_is : (x : X) → hit_seen (encode x) ≡ key x) (given_is : (x : X) → show_seen (encode x) ≡ given x) where
@@ -30,7 +30,7 @@ module _ {X : Type 0} (encode : X → Row) (view : Row → Row) (hit hit_seen : 
       ap (map show_seen) (filter-map hit_seen encode xs ∙ ap (map encode) (filter_agree (λ x. hit_seen (encode x)) key key_is xs))
       ∙ map_map show_seen encode (filter key xs) ∙ map_same (λ x. show_seen (encode x)) given given_is (filter key xs)
 
-  -- what is answered is what the rows with the key give
+  -- the result is what the rows with the key show
   pub looked_up : (xs : List X) (stored rows : List Row) → IsPermutation (map encode xs) (map view stored) → IsPermutation (map show (filter hit stored)) rows
       → IsPermutation (map given (filter key xs)) rows
   looked_up xs stored rows held got =
@@ -48,7 +48,7 @@ module _ {X : Type 0} (p : X → Bool) where
     | inr miss ↦ rw miss (filter_once xs (λ i j d before within. once (suc i) (suc j) d (omega arith) (omega arith)))
   ]
 
-  -- so it alone is answered
+  -- if at most one element satisfies `p`, the result has at most its row
   pub one_answered : (given : X → Row) (xs : List X) (rows : List Row) → PassesOnce p xs → IsPermutation (map given (filter p xs)) rows → rows ≡ map given (option_to_list (find p xs))
   one_answered given xs rows once got = few (find p xs) (subst (λ zs. IsPermutation (map given zs) rows) (filter_once xs once) got)
     where

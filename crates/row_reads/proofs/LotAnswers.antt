@@ -1,4 +1,4 @@
--- What is answered of lots, and how many they and the products are.
+-- Lemmas about reads of lots, and about the numbers of lots and products.
 use Rattle.std.proofs.Common.{◌≡◌, ℕ, true, false, List, [], ◌∷◌, length, map, Option, refl, subst, ap, ◌∙◌}
 use Rattle.std.specs.Prelude.{filter, find, option_map}
 use Rattle.std.specs.List.Sorted.{IsPermutation}

@@ -1,5 +1,5 @@
--- What is answered of records, groupings and sessions, where several rows can be, and of the first
--- and the last of them.
+-- Lemmas about reads of sessions, records and groupings that return several rows, or the first or
+-- the last row.
 use Rattle.std.proofs.Common.{◌≡◌, ℕ, ◌==◌, ◌&&◌, true, false, List, [], ◌∷◌, length, map, Option, refl, sym, ap, subst, ◌∙◌}
 use Rattle.std.proofs.Math.Bool.{and_assoc}
 use Rattle.std.specs.Prelude.{bytes_eq, filter}

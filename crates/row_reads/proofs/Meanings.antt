@@ -1,4 +1,4 @@
--- What the resolver reads in each text.
+-- The parsed queries of the statements in Texts.antt.
 use Rattle.std.proofs.Common.{[], ◌∷◌, codes, refl}
 use Rattle.sqlite.specs.Listing.{understood}
 use Rattle.sqlite_tied.specs.Compute.{everything}

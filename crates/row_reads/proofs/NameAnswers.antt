@@ -1,4 +1,4 @@
--- What is answered of what has a name.
+-- Lemmas about the read of a kept reply.
 use Rattle.std.proofs.Common.{◌≡◌, ℕ, ◌&&◌, true, false, List, [], ◌∷◌, map, Option, pos, refl}
 use Rattle.std.specs.Prelude.{option_map}
 use Rattle.sqlite.specs.declared.types.Value.TheVariants.{Int, Text}

@@ -1,4 +1,4 @@
--- What the resolver reads in the texts that read what has a name.
+-- The parsed queries of the statements in NameTexts.antt.
 use Rattle.std.proofs.Common.{ℕ, List, [], ◌∷◌, codes, true, false, refl}
 use Rattle.sqlite.specs.Listing.{understood}
 use Rattle.sqlite.specs.Term.{col}

@@ -1,4 +1,4 @@
--- What a query with ORDER BY answers.
+-- Lemmas about the result of a query with ORDER BY.
 use Rattle.std.proofs.Common.{◌≡◌, ℕ, zero, suc, ◌+◌, ◌≤◌, ◌<◌, pos, Bool, true, false, List, [], ◌∷◌, map, take, length, get_or, Option, Some, All, Contains, refl, sym, ap, subst, ◌∙◌, arith, nat_cmp, add-one}
 use Rattle.std.specs.Prelude.{filter}
 use Rattle.std.specs.Ordering.{is_lt}
@@ -34,13 +34,13 @@ use Rattle.row_reads.specs.Decoding.{IsFirst, first_number, id_in}
 use Rattle.row_reads.specs.Extremes.{AreSorted, IsGreatest, IsLeastBy}
 use Rattle.row_reads.proofs.Asking.{all_found, given_as, look, part, shown_row, whole}
 
--- the rows of one tree that pass, by the first column that is shown, up or down, and as many as the
--- limit says
+-- the query for the rows of one tree that satisfy `filters`, sorted by the first column in
+-- ascending or descending order, with a limit
 abbrev pub sorted_query : Bool → Term → ℕ → List Term → Term → List Term → Query
 sorted_query descending limit tree filters first more =
     record (from_tree tree filters (first ∷ more)) { order = (first, record { collation = Binary; descending = descending }) ∷ []; limit = limit }
 
--- at our schema the text asks for them
+-- At the current schema, the text is such a query.
 pub record AsksSorted (descending : Bool) (limit : Term) (text : List ℕ) (tree : ℕ) (filters : List Term) (first : Term) (more : List Term) : Type 0 where
   pub names : List (List ℕ)
   pub is : command_of (understood our_schema text) ≡ Select (record { lets = []; body = sorted_query descending limit tree filters first more }) names
@@ -50,7 +50,7 @@ pub record AsksSorted (descending : Bool) (limit : Term) (text : List ℕ) (tree
 abbrev pub IsInOrder : Bool → List Row → Type 0
 IsInOrder descending = IsSortedByKey (λ (r : Row). column r 0) (directed descending value_cmp)
 
--- what it is sorted by is its first column
+-- The sort key is the first column.
 abbrev Keyed : Output → Type 0
 Keyed o = column o.0 0 ≡ column o.1 0
 
@@ -60,7 +60,7 @@ module _ (descending : Bool) (limit : Term) (tree : ℕ) (filters : List Term) (
   all_keyed (e ∷ envs) zero d low = refl
   all_keyed (e ∷ envs) (suc i) d low = all_keyed envs i d (omega arith)
 
-  -- the rows that pass, shown, in the order of the first column, and as many as the limit says
+  -- the shown rows that satisfy the conditions, sorted by the first column, up to the limit
   in_order : (db : Trees) (params : Row) (rows : List Row) → IsAnswer (sorted_query descending limit tree filters first more) (overlay db []) params rows
       → (all : List Row) × IsPermutation (map (shown (first ∷ more) params) (filter (passes filters params) (db tree))) all × IsInOrder descending all
       × (rows ≡ limited (as_count (eval limit (params ∷ []))) all)
@@ -92,7 +92,7 @@ module _ {X : Type 0} (by_rowid : Bool) (encode : X → Row) (filters : List Ter
     (none : look filters (first ∷ more) params [] ≡ look filters (first ∷ more) params (whole by_rowid (part by_rowid [])))
     (some : (v : Value) (r : Row) → look filters (first ∷ more) params (v ∷ r) ≡ look filters (first ∷ more) params (whole by_rowid (part by_rowid (v ∷ r))))
     (key_is : (x : X) → passes filters params (whole by_rowid (encode x)) ≡ key x) where
-  -- what is answered is what the rows with the key give, in order, and as many as the limit says
+  -- the result is what the rows with the key show, sorted, up to the limit
   pub asked_sorted : (descending : Bool) (limit : Term) (text : List ℕ) (tree : ℕ) → AsksSorted descending limit text tree filters first more
       → (old new : State) (rows : List Row) → Shown text params old new rows → old.now.schema ≡ our_schema → (xs : List X) → IsPermutation (map encode xs) (given_rows by_rowid (old.now.trees tree))
       → (all : List Row) × IsPermutation (map (λ x. shown_row by_rowid (first ∷ more) params (encode x)) (filter key xs)) all × IsInOrder descending all
@@ -120,11 +120,11 @@ are_numbers_given view first_is [] k d low = absurd (omega arith)
 are_numbers_given view first_is (x ∷ xs) zero d low = first_is x
 are_numbers_given view first_is (x ∷ xs) (suc k) d low = are_numbers_given view first_is xs k d (omega arith)
 
--- what is read of rows that begin with a number
+-- if every row begins with a number, rows in any other order also do
 pub numbered : {X : Type 0} (view : X → Row) → ((x : X) → IsNumbered (view x)) → (xs : List X) (all : List Row) → IsPermutation (map view xs) all → All IsNumbered all
 numbered view first_is xs all got = All-permutation IsNumbered _ _ got (are_numbers_given view first_is xs)
 
--- decoded rows in order
+-- decoded rows in ascending order
 module _ {Y : Type 0} (decode : Row → Y) (rank : Y → ℕ) (rank_is : (r : Row) → rank (decode r) ≡ number_in (column r 0)) where
   rises : (all : List Row) → All IsNumbered all → IsInOrder false all → IsNonDecreasingBy rank (map decode all)
   rises all numbers sorted =
@@ -149,24 +149,24 @@ pub first_of_one : {Y : Type 0} (decode : Row → Y) (all : List Row) (found : O
 first_of_one decode [] found first = first
 first_of_one decode (r ∷ all) found first = first
 
--- what is made of an answer in order
+-- values from a sorted result
 module _ {X Y : Type 0} (key : X → Bool) (view : X → Row) (xs : List X) (all : List Row) (got : IsPermutation (map view (filter key xs)) all) (sorted : IsInOrder false all)
     (first_is : (x : X) → IsNumbered (view x)) (decode : Row → Y) (f : X → Y) (back : (x : X) → decode (view x) ≡ f x) (rank : Y → ℕ)
     (rank_is : (r : Row) → rank (decode r) ≡ number_in (column r 0)) where
   up : IsNonDecreasingBy rank (map decode all)
   up = rises decode rank rank_is all (numbered view first_is (filter key xs) all got) sorted
 
-  -- each row's
+  -- the values of all rows
   pub sorted_found : (rows : List Row) → rows ≡ all → AreSorted rank (map f (filter key xs)) (map decode rows)
   sorted_found rows is = subst (λ rs. AreSorted rank (map f (filter key xs)) (map decode rs)) (sym is) (all_found key view xs all got decode f back, up)
 
-  -- the first row's
+  -- the value of the first row
   pub least_found : (rows : List Row) → rows ≡ take 1 all → (found : Option Y) → IsFirst (map decode rows) found → IsLeastBy rank (map f (filter key xs)) found
   least_found rows is found first =
       least_of rank (map f (filter key xs)) (map decode all) (all_found key view xs all got decode f back) up found
       (first_of_one decode all found (subst (λ rs. IsFirst (map decode rs) found) is first))
 
--- rows that fall: none is above the first
+-- in descending order, no row has a higher number than the first row
 falls : (all : List Row) → All IsNumbered all → IsInOrder true all → (j : ℕ) → j < length all → number_in (column (get_or all j []) 0) ≤ number_in (column (get_or all 0 []) 0)
 falls all numbers sorted zero low = omega arith
 falls all numbers sorted (suc j) low =
@@ -186,7 +186,7 @@ greatest_of (z ∷ zs) (y ∷ ys) same n first most =
       All-permutation (λ m. m ≤ n) (y ∷ ys) (z ∷ zs) (IsPermutation-sym (z ∷ zs) (y ∷ ys) same) most,
     )
 
--- the first of rows that fall has the greatest number
+-- in descending order, the first row has the highest number
 pub greatest_found : {X : Type 0} (view : X → Row) → ((x : X) → IsNumbered (view x)) → (xs : List X) (all : List Row) → IsPermutation (map view xs) all → IsInOrder true all
     → (f : X → ℕ) → ((x : X) → number_in (column (view x) 0) ≡ f x) → (rows : List Row) → rows ≡ take 1 all → IsGreatest (map f xs) (first_number rows)
 greatest_found view first_is xs all got sorted f back rows is =

@@ -1,4 +1,4 @@
--- What the values of an answered row give of records, groupings and sessions.
+-- The values of rows that queries return for sessions, records and groupings.
 use Rattle.std.specs.Prelude.{◌<◌, ◌≤◌, ◌^◌, ◌==◌, ◌&&◌, ℕ, Bool, List, bytes_eq}
 use Rattle.sqlite.specs.Order.{Row, column}
 use Rattle.store_data.specs.declared.cursor.Cursor.{Cursor}
@@ -28,11 +28,12 @@ session_in row = record {
   cursor = cursor_in row;
 }
 
--- what is read of a stored session
+-- the part of the stored session `s` that is read
 abbrev pub session_at : StoredSession → SessionAt
 session_at s = record { machine = s.machine; batch = s.batch; place = s.place; stands = s.state; words = s.words; cursor = s.cursor }
 
--- its numbers are in the ranges that statements take, and its cursor is in the ranges of plans
+-- The numbers of `s` are below 2^63, as parameters of statements must be, and its cursor is in the
+-- ranges of plans.
 pub record IsSessionAt (s : SessionAt) : Type 0 where
   pub batch : s.batch < 2 ^ 63
   pub place : s.place < 2 ^ 63
@@ -42,11 +43,11 @@ pub record IsSessionAt (s : SessionAt) : Type 0 where
 abbrev pub good_in : Row → GoodCard
 good_in row = record { place = number_in (column row 0); serial = number_in (column row 1) }
 
--- what is read of a stored session that is good
+-- the part of the good session `s` that is read
 abbrev pub good_at : StoredSession → GoodCard
 good_at s = record { place = s.place; serial = s.serial }
 
--- its numbers are in the ranges that statements take
+-- The numbers of `g` are below 2^63, as parameters of statements must be.
 pub record IsGoodCard (g : GoodCard) : Type 0 where
   pub place : g.place < 2 ^ 63
   pub serial : g.serial < 2 ^ 63
@@ -62,11 +63,11 @@ record_in row = record {
   remakes = number_in (column row 4);
 }
 
--- what is read of a stored record
+-- the part of the stored record `r` that is read
 abbrev pub record_at : StoredRecord → RecordAt
 record_at r = record { place = r.place; name = r.name; stands = r.state; spoiled = r.spoiled; remakes = r.remakes }
 
--- its numbers are in the ranges that statements take
+-- The numbers of `r` are below 2^63, as parameters of statements must be.
 pub record IsRecordAt (r : RecordAt) : Type 0 where
   pub place : r.place < 2 ^ 63
   pub spoiled : r.spoiled < 2 ^ 63
@@ -86,35 +87,36 @@ grouping_in row = record {
   tol = flag_in (column row 4);
 }
 
--- what is read of a stored grouping, without its bytes
+-- the part of the stored grouping `g` that is read, without its bytes
 abbrev pub grouping_at : StoredGrouping → GroupingAt
 grouping_at g = record { line = g.line; aid = g.aid; rank = g.rank; enc = g.enc; tol = g.tol }
 
 abbrev pub line_of : GroupingAt → ℕ
 line_of g = g.line
 
--- its numbers are in their ranges
+-- The row number and the rank of `g` are in their ranges.
 pub record IsGroupingAt (g : GroupingAt) : Type 0 where
   pub line : g.line < 2 ^ 63
   pub least_rank : 1 ≤ g.rank
   pub most_rank : g.rank ≤ 999
 
--- ---- the bytes of groupings
+-- ---- bytes of groupings
 
--- a grouping for the record at this place, of this application and rank
+-- `g` belongs to the record at position `place` of the batch with the id `batch`, and has the
+-- application identifier `aid` and the rank `rank`.
 abbrev pub is_of_segment : ℕ → ℕ → List ℕ → ℕ → StoredGrouping → Bool
 is_of_segment batch place aid rank g = is_grouping_at batch place g && (bytes_eq g.aid aid && (g.rank == rank))
 
 abbrev pub coded_in : Row → CodedAt
 coded_in row = record { line = number_in (column row 0); coded = blob_in (column row 1) }
 
--- the bytes of a stored grouping
+-- the row number and the bytes of the stored grouping `g`
 abbrev pub coded_at : StoredGrouping → CodedAt
 coded_at g = record { line = g.line; coded = g.coded }
 
 abbrev pub coded_line : CodedAt → ℕ
 coded_line g = g.line
 
--- its number is in its range
+-- The row number of `g` is in its range.
 abbrev pub IsCodedAt : CodedAt → Type 0
 IsCodedAt g = g.line < 2 ^ 63

@@ -1,4 +1,4 @@
--- How many rows a table has: the text that asks it, and what it asks.
+-- The number of rows in a table: the text of its statement, and the query.
 use Rattle.std.specs.Prelude.{◌-◌, ◌^◌, ℕ, min, false, List, [], ◌∷◌, Some, codes}
 use Rattle.sqlite.specs.Collation.TheVariants.{Binary}
 use Rattle.sqlite.specs.declared.types.Value.TheVariants.{Null}
@@ -14,14 +14,14 @@ reply_count_text = codes "SELECT count(*) FROM reply"
 abbrev pub row_count : Aggregate
 row_count = record { op = CountRows; distinct = false; collation = Binary; argument = lit Null }
 
--- all rows are one group
+-- the grouping that puts all rows in one group
 abbrev pub in_one_group : Grouping
 in_one_group = record { keys = []; collations = []; aggregates = row_count ∷ []; having = [] }
 
--- the number of the rows of one tree
+-- the query for the number of rows of the tree `tree`
 abbrev pub count_of_tree : ℕ → Query
 count_of_tree tree = record (from_tree tree [] (col 1 0 ∷ [])) { group = Some in_one_group }
 
--- what count(*) answers of so many rows: SQL's numbers end there
+-- the result of `count(*)` for `n` rows, which is at most the maximum integer of SQLite
 abbrev pub shown_count : ℕ → ℕ
 shown_count n = min n (2 ^ 63 - 1)

@@ -1,4 +1,4 @@
--- What the values of an answered row give.
+-- The values of rows that queries return.
 use Rattle.std.specs.Prelude.{◌≡◌, ◌+◌, ◌<◌, ◌^◌, ℕ, ⊤, Bool, true, false, List, [], ◌∷◌, Option, Some, None}
 use Rattle.sqlite.specs.declared.types.Value.{Value}
 use Rattle.sqlite.specs.declared.types.Value.TheVariants.{Blob, Text}
@@ -29,19 +29,19 @@ reply_in row = record { ask = blob_in (column row 0); status = number_in (column
 abbrev pub id_in : Row → ℕ
 id_in row = number_in (column row 0)
 
--- it is a number of SQL
+-- `n` is below 2^63, so it is an integer of SQLite.
 abbrev pub IsNumber : ℕ → Type 0
 IsNumber n = n < 2 ^ 63
 
--- nothing is asked of it
+-- Every value `x` has this property.
 abbrev pub IsAny : {X : Type 0} → X → Type 0
 IsAny x = ⊤
 
--- the name behind an id
+-- the name in column 1, after an id
 abbrev pub name_in : Row → List ℕ
 name_in row = text_in (column row 1)
 
--- the counters of a batch, from column 3 on
+-- the counters of a batch, in columns 3 to 9
 abbrev pub totals_in : Row → BatchTotals
 totals_in row = record {
   records = number_in (column row 3) + number_in (column row 4) + number_in (column row 5) + number_in (column row 6) + number_in (column row 7);
@@ -66,17 +66,17 @@ lot_in row = record { name = text_in (column row 0); product = text_in (column r
 abbrev pub lot_row_in : Row → LotRow
 lot_row_in row = record { lot = lot_in row; discarded = number_in (column row 4) }
 
--- the first of them, if there is one
+-- `found` is the first element of the list, or `None` if the list is empty.
 abbrev pub IsFirst : {X : Type 0} → List X → Option X → Type 0
 IsFirst [] found = found ≡ None
 IsFirst (x ∷ xs) found = found ≡ Some x
 
--- the number of the first row; 0 where there is none
+-- the number in column 0 of the first row, or 0 if the list is empty
 abbrev pub first_number : List Row → ℕ
 first_number [] = 0
 first_number (row ∷ rows) = number_in (column row 0)
 
--- a row is answered
+-- The list has a row.
 abbrev pub has_rows : List Row → Bool
 has_rows [] = false
 has_rows (row ∷ rows) = true

@@ -1,4 +1,5 @@
--- The texts of the statements that read what has a name, and what they ask.
+-- The statements that read replies, batches, lots and charged blanks, and count products: their
+-- texts, columns and conditions.
 use Rattle.std.specs.Prelude.{List, ℕ, pos, [], ◌∷◌, codes}
 use Rattle.sqlite.specs.Collation.TheVariants.{Binary}
 use Rattle.sqlite.specs.declared.types.Value.TheVariants.{Int}
@@ -15,7 +16,7 @@ kept_text = codes "SELECT ask, status, body FROM reply WHERE client = ?1 AND num
 abbrev pub kept_columns : List Term
 kept_columns = col 1 3 ∷ col 1 4 ∷ col 1 5 ∷ []
 
--- the first two columns are the two parameters
+-- the condition that the first two columns are the two parameters
 abbrev pub by_two_columns : List Term
 by_two_columns = is_equal (col 1 1) (col 0 0) ∷ is_equal (col 1 2) (col 0 1) ∷ []
 
@@ -27,22 +28,22 @@ batch_id_text = codes "SELECT id FROM batch WHERE name = ?1"
 abbrev pub id_columns : List Term
 id_columns = col 1 0 ∷ []
 
--- the column behind the id is the first parameter
+-- the condition that the name, in the first column after the id, is the first parameter
 abbrev pub by_batch_name : List Term
 by_batch_name = is_equal (col 1 2) (col 0 0) ∷ []
 
 abbrev pub batch_name_text : List ℕ
 batch_name_text = codes "SELECT id, name FROM batch WHERE ?1 <= id AND (id = ?1) = 1 ORDER BY id LIMIT 1"
 
--- behind the id
+-- the column after the id
 abbrev pub batch_name_columns : List Term
 batch_name_columns = col 1 2 ∷ []
 
--- the id is at least the first parameter, and it is the first parameter
+-- the condition that the id is at least the first parameter, and equal to it
 abbrev pub by_id_in_order : List Term
 by_id_in_order = op2 (Compare Le Binary) (col 0 0) (col 1 0) ∷ is_equal (is_equal (col 1 0) (col 0 0)) (lit (Int (pos 1))) ∷ []
 
--- the id is the first parameter
+-- the condition that the id is the first parameter
 abbrev pub by_id : List Term
 by_id = is_equal (col 1 0) (col 0 0) ∷ []
 
@@ -61,7 +62,7 @@ batch_at_columns = col 1 0 ∷ col 1 3 ∷ col 1 5 ∷ []
 abbrev pub batch_has_text : List ℕ
 batch_has_text = codes "SELECT id FROM batch WHERE name = ?1 AND raw = ?2"
 
--- the name and the bytes are the two parameters
+-- the condition that the name and the bytes are the two parameters
 abbrev pub by_bytes : List Term
 by_bytes = is_equal (col 1 2) (col 0 0) ∷ is_equal (col 1 4) (col 0 1) ∷ []
 
@@ -82,16 +83,16 @@ lots_text = codes "SELECT name, product, low_serial, amount FROM lot"
 abbrev pub lots_of_text : List ℕ
 lots_of_text = codes "SELECT name, product, low_serial, amount, discarded FROM lot WHERE product = ?1"
 
--- the second column is the first parameter
+-- the condition that the second column is the first parameter
 abbrev pub by_second_column : List Term
 by_second_column = is_equal (col 1 2) (col 0 0) ∷ []
 
--- ---- the batches of a product, charged blanks, and names to be counted
+-- ---- the batches of a product, charged blanks, and names to count
 
 abbrev pub batches_of_text : List ℕ
 batches_of_text = codes "SELECT id, product, closed, waiting, running, failed, withdrawn, good, sessions, spoiled FROM batch WHERE product = ?1"
 
--- the product of a batch is the first parameter
+-- the condition that the product of the batch is the first parameter
 abbrev pub by_batch_product : List Term
 by_batch_product = is_equal (col 1 3) (col 0 0) ∷ []
 

@@ -1,4 +1,4 @@
--- Which rows a query over our tables answers: their values are in the ranges of the program.
+-- The rows that queries over the tables return. Their values are in the ranges of the program.
 use Rattle.std.specs.Prelude.{◌≡◌, ◌≤◌, ◌<◌, ◌^◌, ℕ, pos, List, length, IfErr, IsTrue, Result}
 use Rattle.sqlite.specs.declared.error.Error.{Error}
 use Rattle.sqlite.specs.declared.error.Error.TheVariants.{SqliteFailure}
@@ -8,7 +8,7 @@ use Rattle.sqlite.specs.declared.types.Value.TheVariants.{Blob, Int, Text}
 use Rattle.sqlite.specs.Order.{Row, column}
 use Rattle.store_data.specs.Name.{is_name}
 
--- it fails only where memory is refused
+-- If the call fails, an allocation failed.
 abbrev pub FailsForMemory : {X : Type 0} → Result X Error → Type 0
 FailsForMemory result = IfErr result (λ e. e ≡ SqliteFailure OutOfMemory)
 
@@ -20,7 +20,7 @@ IsIn least most v = (n : ℕ) × (v ≡ Int (pos n)) × (least ≤ n) × (n ≤ 
 abbrev pub IsBelow : ℕ → Value → Type 0
 IsBelow limit v = (n : ℕ) × (v ≡ Int (pos n)) × (n < limit)
 
--- a number of SQL
+-- `v` is an integer that isn't negative.
 abbrev pub IsWhole : Value → Type 0
 IsWhole v = IsBelow (2 ^ 63) v
 
@@ -61,7 +61,7 @@ pub record IsBatchAnswer (row : Row) : Type 0 where
   pub product : IsNameText (column row 1)
   pub is_closed : IsBelow 2 (column row 2)
 
--- the counters of a batch: there are below 2^32 records
+-- The counters of a batch are in columns 3 to 9. The counters of records are below 2^32.
 pub record AreTotalsAnswer (row : Row) : Type 0 where
   pub waiting : IsBelow (2 ^ 32) (column row 3)
   pub running : IsBelow (2 ^ 32) (column row 4)
@@ -99,7 +99,7 @@ pub record IsCodedAnswer (row : Row) : Type 0 where
   pub line : IsWhole (column row 0)
   pub coded : IsBlob (column row 1)
 
--- the numbers of a cursor, in the ranges of plans
+-- The numbers of a cursor are in columns 5 to 8, in the ranges of plans.
 pub record IsCursorAnswer (row : Row) : Type 0 where
   pub app : IsIn 0 4096 (column row 5)
   pub segment : IsIn 0 998 (column row 6)

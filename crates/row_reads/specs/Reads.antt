@@ -1,4 +1,4 @@
--- What a read gives of the rows, and what it leaves.
+-- The results of reads, and their effects.
 use Rattle.std.specs.Prelude.{◌≡◌, ℕ, false, true, IfOk, IsTrue, List, Result}
 use Rattle.sqlite.specs.Held.{Held, state}
 use Rattle.sqlite.specs.Order.{Row}
@@ -9,17 +9,19 @@ use Rattle.sql_base.specs.Ends.{IsKept}
 use Rattle.table_rows.specs.Tables.{Tables}
 use Rattle.sql_rows.specs.Image.{IsImage}
 
--- this is so of the rows that a query shows, in a transaction of its own
+-- On a correct device, a result has the property `P` for the rows that the query returns in a
+-- transaction of its own.
 abbrev pub Answers : {S T : Type 0} → Ghosts S → Held S → Held S → List ℕ → Row → Result T Error → (List Row → T → Type 0) → Type 0
 Answers g old new sql params result P =
     HasCleanDisk (state g new) → IfOk result
     (λ answer. (mid : Held _) × (rows : List Row) × Shown sql params (state g (record old { in_transaction = true })) (state g mid) rows × P rows answer)
 
--- an open connection answers, and this is so of whatever rows it has
+-- On a correct device, if the call succeeds, the connection was open, and the result has the
+-- property `P` for any rows that the database contains.
 abbrev pub ReadsRows : {T : Type 0} → State → State → Result T Error → (Tables → T → Type 0) → Type 0
 ReadsRows old new result P = HasCleanDisk new → IfOk result (λ answer. IsTrue old.is_open × ((t : Tables) → IsImage t old.now → P t answer))
 
--- nothing is changed, no transaction is left open, and a crash leaves what it could leave before
+-- Nothing is changed, no transaction is left open, and a crash leaves what it could leave before.
 pub record Looks (old new : State) : Type 0 where
   pub kept : HasCleanDisk new → IsKept old new
   pub idle : new.in_transaction ≡ false

@@ -1,4 +1,4 @@
--- The texts of the statements that read, and what they ask.
+-- The statements that read products and release marks: their texts, columns and conditions.
 use Rattle.std.specs.Prelude.{List, ℕ, [], ◌∷◌, codes}
 use Rattle.sqlite.specs.Term.{Term, col}
 use Rattle.sql_base.specs.Queries.{is_equal}
@@ -15,6 +15,6 @@ mark_text = codes "SELECT upto FROM mark WHERE client = ?1"
 abbrev pub mark_columns : List Term
 mark_columns = col 1 2 ∷ []
 
--- the first column is the first parameter
+-- the condition that the first column is the first parameter
 abbrev pub by_first_column : List Term
 by_first_column = is_equal (col 1 1) (col 0 0) ∷ []

@@ -1,4 +1,4 @@
-//! What a query answers, and what the rows of its answer are read as.
+//! Reads values from the rows of a query result.
 ghost use Rattle.std.specs.Prelude.{◌≡◌, false, map, All, IfOk, IfSome};
 ghost use Rattle.sqlite.specs.Held.{state};
 ghost use Rattle.sqlite.specs.Values.{bound};
@@ -11,29 +11,38 @@ use sqlite::types::ValueRef;
 use sqlite::{Alter, Connection, Error, Row};
 use std::alloc::Global;
 
-/// A value that an answered row is read as.
+/// A value that can be read from a row of a query result.
 pub(crate) trait Answered: Sized + Drop {
     ghost use Rattle.std.specs.Prelude.{◌≡◌, IfOk};
     ghost use Rattle.sqlite.specs.Order.{Row as RowValue};
     ghost use Rattle.row_reads.specs.Readable.{FailsForMemory};
 
-    /// What a row stands for.
+    /// The value that a row represents.
     ghost value: { RowValue → Self };
 
-    /// What holds of each value that is read.
+    /// A property of every value that is read.
     ghost fits: { Self → Type 0 };
 
-    /// Which rows stand for one.
+    /// The condition under which a row represents a value.
     ghost readable: { RowValue → Type 0 };
 
-    /// The value that a row stands for, where it is one.
+    /// Returns the value that `row` represents.
+    ///
+    /// # Errors
+    ///
+    /// - `SqliteFailure(OutOfMemory)`: an allocation fails.
+    /// - Any other error: `row` doesn't represent a value of this type.
     fn read(row: &Row) -> Result<Self, Error>
         ensures value { IfOk result (λ it. it ≡ value row.now) }
         ensures ranged { IfOk result fits }
         ensures total { readable row.now → FailsForMemory result };
 }
 
-/// What the first of these rows is read as, if there is one.
+/// Returns the value of the first row, or `None` if there are no rows.
+///
+/// # Errors
+///
+/// Returns the error of `Answered::read`.
 pub(crate) fn first<T: Answered>(rows: &[Row]) -> Result<Option<T>, Error>
     ensures value { IfOk result (λ found. IsFirst (map T.value rows.now) found) }
     ensures ranged { IfOk result (λ found. IfSome found T.fits) }
@@ -45,7 +54,7 @@ pub(crate) fn first<T: Answered>(rows: &[Row]) -> Result<Option<T>, Error>
     }
 }
 
-// What these rows are read as.
+// Returns the values of all rows.
 fn all<T: Answered>(alloc: Global, rows: &[Row]) -> Result<Vec<T>, Error>
     ensures value { IfOk result (λ all. all.items ≡ map T.value rows.now) }
     ensures ranged { IfOk result (λ all. All T.fits all.items) }
@@ -58,7 +67,12 @@ fn all<T: Answered>(alloc: Global, rows: &[Row]) -> Result<Vec<T>, Error>
     Ok(all)
 }
 
-/// What the first row that a query answers is read as, if there is one.
+/// Executes the query `sql` with the parameters `params`. Returns the value of the first row, or
+/// `None` if there are no rows.
+///
+/// # Errors
+///
+/// Returns the error of SQLite if the query fails, or the error of `Answered::read`.
 pub(crate) fn one_of<T: Answered, S: Alter>(
     conn: &mut Connection<S>,
     sql: &str,
@@ -74,7 +88,11 @@ pub(crate) fn one_of<T: Answered, S: Alter>(
     first(rows.as_slice())
 }
 
-/// What the rows that a query answers are read as.
+/// Executes the query `sql` with the parameters `params`. Returns the values of all rows.
+///
+/// # Errors
+///
+/// Returns the error of SQLite if the query fails, or the error of `Answered::read`.
 pub(crate) fn all_of<T: Answered, S: Alter>(
     conn: &mut Connection<S>,
     sql: &str,

@@ -1,4 +1,4 @@
-//! The statements that read the batch table: by name, by id, and by product.
+//! The statements that read the table `batch`.
 ghost use Rattle.std.specs.Prelude.{◌≡◌, ◌<◌, ◌^◌, false, filter, find, map, option_map};
 ghost use Rattle.std.specs.Prelude.{IfOk, IfSome, IsOk, IsPermutation};
 ghost use Rattle.std.specs.List.{list_any};
@@ -20,27 +20,34 @@ use sqlite::types::ValueRef;
 use sqlite::{Alter, Connection, Error, Row};
 use store_data::Name;
 
-/// A batch without its bytes and its counters.
+/// A batch without the bytes of its file and without its counters.
 #[derive(Clone, Copy)]
 pub struct BatchAt {
+    /// The id of the batch.
     pub id: u64,
+    /// The name of the product.
     pub product: Name,
+    /// `true` if the batch is closed.
     pub is_closed: bool,
 }
 
-/// A batch without its bytes.
+/// A batch without the bytes of its file.
 #[derive(Clone, Copy)]
 pub struct BatchHead {
+    /// The id of the batch.
     pub id: u64,
+    /// The name of the product.
     pub product: Name,
+    /// `true` if the batch is closed.
     pub is_closed: bool,
+    /// The counters of the batch.
     pub totals: BatchTotals,
 }
 
-// ---- answered rows
+// ---- rows
 
-// The counters behind an id, a product and the mark of a close. Those of records are below 2^32, so
-// that their sum is a number.
+// Reads the counters in columns 3 to 9. The counters of records must be below 2^32, so that their
+// sum can't overflow.
 fn totals_in(row: &Row) -> Result<BatchTotals, Error>
     ensures value { IfOk result (λ totals. totals ≡ totals_in row.now) }
     ensures ranged { IfOk result AreCounts }
@@ -104,7 +111,7 @@ impl Answered for BatchAt {
 
 // ---- queries
 
-/// The id of the batch of this name.
+/// Returns the id of the batch with the name `name`.
 pub fn batch_id<S: Alter>(conn: &mut Connection<S>, name: &Name) -> Result<Option<u64>, Error>
     requires { conn.old.in_transaction ≡ false }
     ensures found { ReadsRows (state S.Store conn.old) (state S.Store conn.new) result
@@ -118,8 +125,11 @@ pub fn batch_id<S: Alter>(conn: &mut Connection<S>, name: &Name) -> Result<Optio
     one_of(conn, sql, &[ValueRef::Text(name.bytes())])
 }
 
-/// The name of the batch with this id. An equality with the id alone would read the row whole, with
-/// its bytes; so an index answers.
+/// Returns the name of the batch with the id `id`.
+///
+/// If the condition were only `id = ?1`, SQLite would read the whole row, including the bytes of
+/// the batch file. The condition is written so that SQLite uses the index on `id` and `name`
+/// instead.
 pub fn batch_name<S: Alter>(conn: &mut Connection<S>, id: u64) -> Result<Option<Name>, Error>
     requires idle { conn.old.in_transaction ≡ false }
     requires id { id < 2 ^ 63 }
@@ -132,8 +142,8 @@ pub fn batch_name<S: Alter>(conn: &mut Connection<S>, id: u64) -> Result<Option<
     one_of(conn, sql, &[int(id)])
 }
 
-/// The batch of this name, without its bytes and its counters: an index alone answers, so that the
-/// bytes are not read.
+/// Returns the batch with the name `name`, without the bytes of its file and without its counters.
+/// All columns of the result are in an index, so SQLite doesn't read the bytes.
 pub fn batch_by_name<S: Alter>(
     conn: &mut Connection<S>,
     name: &Name,
@@ -149,7 +159,7 @@ pub fn batch_by_name<S: Alter>(
     one_of(conn, sql, &[ValueRef::Text(name.bytes())])
 }
 
-/// The batch of this name, without its bytes.
+/// Returns the batch with the name `name`, without the bytes of its file.
 pub fn batch_head<S: Alter>(
     conn: &mut Connection<S>,
     name: &Name,
@@ -166,7 +176,7 @@ pub fn batch_head<S: Alter>(
     one_of(conn, sql, &[ValueRef::Text(name.bytes())])
 }
 
-/// Whether the batch of this name has these bytes.
+/// Returns `true` if the batch `name` was imported from exactly the bytes `raw`.
 pub fn batch_has<S: Alter>(conn: &mut Connection<S>, name: &Name, raw: &[u8]) -> Result<bool, Error>
     requires { conn.old.in_transaction ≡ false }
     ensures found { ReadsRows (state S.Store conn.old) (state S.Store conn.new) result
@@ -181,7 +191,7 @@ pub fn batch_has<S: Alter>(conn: &mut Connection<S>, name: &Name, raw: &[u8]) ->
     Ok(has_rows(rows.as_slice()))
 }
 
-/// The batches of a product, in any order and without their bytes.
+/// Returns the batches of the product `product`, in any order and without the bytes of their files.
 pub fn batches_of<S: Alter>(
     conn: &mut Connection<S>,
     product: &Name,
@@ -197,7 +207,7 @@ pub fn batches_of<S: Alter>(
     all_of(conn, sql, &[ValueRef::Text(product.bytes())])
 }
 
-/// The greatest id of a batch; 0 where there is no batch.
+/// Returns the highest id of a batch, or 0 if no batch exists.
 pub fn last_batch<S: Alter>(conn: &mut Connection<S>) -> Result<u64, Error>
     requires { conn.old.in_transaction ≡ false }
     ensures found { ReadsRows (state S.Store conn.old) (state S.Store conn.new) result

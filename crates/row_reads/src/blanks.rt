@@ -1,4 +1,4 @@
-//! The statement that looks a charged blank up.
+//! The statement that looks up a charged blank.
 ghost use Rattle.std.specs.Prelude.{◌≡◌, ◌<◌, ◌^◌, false};
 ghost use Rattle.std.specs.List.{list_any};
 ghost use Rattle.sqlite.specs.Held.{state};
@@ -9,7 +9,7 @@ use crate::values::has_rows;
 use sql_base::{int, rows_of};
 use sqlite::{Alter, Connection, Error};
 
-/// Whether a blank is opened or discarded.
+/// Returns `true` if the blank `serial` is charged.
 pub fn is_charged<S: Alter>(conn: &mut Connection<S>, serial: u64) -> Result<bool, Error>
     requires idle { conn.old.in_transaction ≡ false }
     requires serial { serial < 2 ^ 63 }

@@ -1,4 +1,4 @@
-//! The statements that read the groupings of a record, with their bytes and without.
+//! The statements that read the groupings of a record, with or without their bytes.
 ghost use Rattle.std.specs.Prelude.{◌≡◌, ◌≤◌, ◌<◌, ◌^◌, false, filter, length, All, IfOk, IsOk};
 ghost use Rattle.std.specs.Prelude.{map};
 ghost use Rattle.sqlite.specs.Held.{state};
@@ -19,29 +19,31 @@ use sqlite::types::ValueRef;
 use sqlite::{Alter, Connection, Error, Row};
 use store_data::{Aid, Bytes, Enc};
 
-/// A row of a batch, without the name of its record and without its bytes.
+/// A row of a batch file, without the name of its record and without the bytes of its grouping.
 #[derive(Clone, Copy)]
 pub struct GroupingAt {
     /// The number of the row in the file.
     pub line: u64,
+    /// The application identifier.
     pub aid: Aid,
-    /// The place of the row's segment in its application, 1 to 999.
+    /// The rank, 1 to 999. The ranks order the segments of an application.
     pub rank: u16,
+    /// The encryption.
     pub enc: Enc,
-    /// Whether the card may answer 6A88 to the last piece of the row's segment.
+    /// `true` if the card may return 6A88 after the last piece of the segment.
     pub tol: bool,
 }
 
-/// The bytes of a row of a batch.
+/// The bytes of a row of a batch file.
 #[derive(Drop)]
 pub struct CodedAt {
     /// The number of the row in the file.
     pub line: u64,
-    /// The grouping in its sent form (EMV CPS 1.1).
+    /// The grouping in its shortest encoding, as it is sent (EMV CPS 1.1).
     pub coded: Bytes,
 }
 
-// The identifier of these bytes, where they are 5 to 16.
+// Converts `bytes` to an application identifier, which must have 5 to 16 bytes.
 fn aid_of(bytes: &[u8]) -> Result<Aid, Error>
     ensures value { IfOk result (λ aid. aid ≡ bytes.now) }
     ensures total { 5 ≤ length bytes.now → length bytes.now ≤ 16 → IsOk result }
@@ -52,7 +54,7 @@ fn aid_of(bytes: &[u8]) -> Result<Aid, Error>
     Ok(Aid::new(bytes))
 }
 
-// The identifier in this column.
+// Returns the application identifier in column `at`.
 fn aid_at(row: &Row, at: usize) -> Result<Aid, Error>
     ensures value { IfOk result (λ aid. aid ≡ blob_in (column row.now at)) }
     ensures total { IsAidBlob (column row.now at) → IsOk result }
@@ -95,8 +97,8 @@ impl Answered for CodedAt {
     }
 }
 
-/// The rows of the record at this place of the batch with this id, without their bytes, by their
-/// numbers.
+/// Returns the rows of the record at position `place` of the batch with the id `batch`, without the
+/// bytes of their groupings, in the order of row numbers.
 pub fn groupings_of<S: Alter>(
     conn: &mut Connection<S>,
     batch: u64,
@@ -116,7 +118,9 @@ pub fn groupings_of<S: Alter>(
     all_of(conn, sql, &[int(batch), int(place)])
 }
 
-/// The bytes of the rows of such a record with this identifier and this rank, by their numbers.
+/// Returns the bytes of the rows of one segment, in the order of row numbers. It is the segment
+/// with the application identifier `aid` and the rank `rank` of the record at position `place` of
+/// the batch with the id `batch`.
 pub fn coded_of<S: Alter>(
     conn: &mut Connection<S>,
     batch: u64,
@@ -147,7 +151,7 @@ pub fn coded_of<S: Alter>(
     )
 }
 
-/// How many rows the batch with this id has.
+/// Returns the number of rows of the batch with the id `batch`.
 pub fn grouping_count<S: Alter>(conn: &mut Connection<S>, batch: u64) -> Result<u64, Error>
     requires idle { conn.old.in_transaction ≡ false }
     requires batch { batch < 2 ^ 63 }

@@ -1,5 +1,15 @@
-//! What each statement that reads answers of the rows of our tables. A read changes nothing, and a
-//! crash leaves what it could leave before.
+//! The statements that read rows, and the values of their results.
+//!
+//! A read doesn't change the database, and a crash during a read leaves what it could leave before.
+//!
+//! # Errors
+//!
+//! Every read returns the error of SQLite if its query fails, and `Error::InvalidQuery` if a row
+//! has a value that the store never writes.
+//!
+//! No contract says why a query fails. The contracts of the public functions also don't state that
+//! a row with valid values is read. Only `Answered::read`, inside this crate, does (clause
+//! `total`).
 #![tactic(auto)]
 
 mod answered;

@@ -1,4 +1,4 @@
-//! The statements that read the lot table: by name, by product, and by a blank's serial.
+//! The statements that read the table `lot`.
 ghost use Rattle.std.specs.Prelude.{◌≡◌, ◌<◌, ◌^◌, false, filter, find, length, map};
 ghost use Rattle.std.specs.Prelude.{option_map, IfOk, IfSome, IsPermutation};
 ghost use Rattle.sqlite.specs.Held.{state};
@@ -18,14 +18,16 @@ use sqlite::types::ValueRef;
 use sqlite::{Alter, Connection, Error, Row};
 use store_data::Name;
 
-/// A lot, and how many of its blanks are discarded.
+/// A lot with the number of its discarded blanks.
 #[derive(Clone, Copy)]
 pub struct LotRow {
+    /// The lot.
     pub lot: Lot,
+    /// The number of its discarded blanks.
     pub discarded: u64,
 }
 
-// ---- answered rows
+// ---- rows
 
 impl Answered for Lot {
     ghost value = { lot_in };
@@ -61,7 +63,7 @@ impl Answered for LotRow {
 
 // ---- queries
 
-/// The lot of this name.
+/// Returns the lot with the name `name`.
 pub fn lot<S: Alter>(conn: &mut Connection<S>, name: &Name) -> Result<Option<LotRow>, Error>
     requires { conn.old.in_transaction ≡ false }
     ensures found { ReadsRows (state S.Store conn.old) (state S.Store conn.new) result
@@ -74,7 +76,7 @@ pub fn lot<S: Alter>(conn: &mut Connection<S>, name: &Name) -> Result<Option<Lot
     one_of(conn, sql, &[ValueRef::Text(name.bytes())])
 }
 
-/// All lots, in any order.
+/// Returns all lots, in any order.
 pub fn all_lots<S: Alter>(conn: &mut Connection<S>) -> Result<Vec<Lot>, Error>
     requires { conn.old.in_transaction ≡ false }
     ensures found { ReadsRows (state S.Store conn.old) (state S.Store conn.new) result
@@ -85,7 +87,7 @@ pub fn all_lots<S: Alter>(conn: &mut Connection<S>) -> Result<Vec<Lot>, Error>
     all_of(conn, sql, &[])
 }
 
-/// The lots of a product, in any order.
+/// Returns the lots of the product `product`, in any order.
 pub fn lots_of<S: Alter>(conn: &mut Connection<S>, product: &Name) -> Result<Vec<LotRow>, Error>
     requires { conn.old.in_transaction ≡ false }
     ensures found { ReadsRows (state S.Store conn.old) (state S.Store conn.new) result
@@ -97,7 +99,7 @@ pub fn lots_of<S: Alter>(conn: &mut Connection<S>, product: &Name) -> Result<Vec
     all_of(conn, sql, &[ValueRef::Text(product.bytes())])
 }
 
-/// The lot in which a blank lies.
+/// Returns the lot that contains the blank `blank`.
 pub fn lot_of<S: Alter>(conn: &mut Connection<S>, blank: u64) -> Result<Option<Lot>, Error>
     requires { conn.old.in_transaction ≡ false }
     ensures found { ReadsRows (state S.Store conn.old) (state S.Store conn.new) result
@@ -109,7 +111,7 @@ pub fn lot_of<S: Alter>(conn: &mut Connection<S>, blank: u64) -> Result<Option<L
     Ok(lot_among(lots.as_slice(), blank).copied())
 }
 
-/// Whether a serial of the range lies in a lot.
+/// Returns `true` if a lot contains one of the `count` serials that start with `first`.
 pub fn overlaps<S: Alter>(conn: &mut Connection<S>, first: u64, count: u32) -> Result<bool, Error>
     requires { conn.old.in_transaction ≡ false }
     ensures found { ReadsRows (state S.Store conn.old) (state S.Store conn.new) result
@@ -120,7 +122,7 @@ pub fn overlaps<S: Alter>(conn: &mut Connection<S>, first: u64, count: u32) -> R
     Ok(any_overlaps(lots.as_slice(), first, count))
 }
 
-/// How many lots there are.
+/// Returns the number of lots.
 pub fn lot_count<S: Alter>(conn: &mut Connection<S>) -> Result<u64, Error>
     requires { conn.old.in_transaction ≡ false }
     ensures found { ReadsRows (state S.Store conn.old) (state S.Store conn.new) result

@@ -1,4 +1,4 @@
-//! The statement that reads a client's release mark.
+//! The statement that reads the release mark of a client.
 ghost use Rattle.std.specs.Prelude.{◌≡◌, ◌<◌, ◌^◌, false, map, IfOk};
 ghost use Rattle.sqlite.specs.Held.{state};
 ghost use Rattle.job_facts.specs.Contents.{Mark, mark_of};
@@ -11,7 +11,7 @@ use sqlite::types::ValueRef;
 use sqlite::{Alter, Connection, Error};
 use store_data::Name;
 
-/// The number up to which a client has released its numbers; 0 where it never did.
+/// Returns the release mark of `client`, or 0 if it has released nothing.
 pub fn mark<S: Alter>(conn: &mut Connection<S>, client: &Name) -> Result<u64, Error>
     requires { conn.old.in_transaction ≡ false }
     ensures found { ReadsRows (state S.Store conn.old) (state S.Store conn.new) result

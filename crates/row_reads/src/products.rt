@@ -1,4 +1,4 @@
-//! The statements that read the product table.
+//! The statements that read the table `product`.
 ghost use Rattle.std.specs.Prelude.{◌≡◌, false, length, map, IfOk, IfSome};
 ghost use Rattle.sqlite.specs.Held.{state};
 ghost use Rattle.store_data.specs.Sequence.{IsProduct};
@@ -33,7 +33,7 @@ impl Answered for Product {
     }
 }
 
-/// The product of this code.
+/// Returns the product with the name `code`.
 pub fn product<S: Alter>(conn: &mut Connection<S>, code: &Name) -> Result<Option<Product>, Error>
     requires { conn.old.in_transaction ≡ false }
     ensures found { ReadsRows (state S.Store conn.old) (state S.Store conn.new) result
@@ -46,7 +46,7 @@ pub fn product<S: Alter>(conn: &mut Connection<S>, code: &Name) -> Result<Option
     one_of(conn, sql, &[ValueRef::Text(code.bytes())])
 }
 
-/// How many products there are.
+/// Returns the number of products.
 pub fn product_count<S: Alter>(conn: &mut Connection<S>) -> Result<u64, Error>
     requires { conn.old.in_transaction ≡ false }
     ensures found { ReadsRows (state S.Store conn.old) (state S.Store conn.new) result

@@ -1,4 +1,4 @@
-//! The statements that read the record table: by name, by place, and the first that waits.
+//! The statements that read the table `record`.
 ghost use Rattle.std.specs.Prelude.{◌≡◌, ◌<◌, ◌^◌, false, filter, find, option_map, All, IfOk};
 ghost use Rattle.std.specs.Prelude.{IfSome, map};
 ghost use Rattle.sqlite.specs.Held.{state};
@@ -17,16 +17,18 @@ use sqlite::types::ValueRef;
 use sqlite::{Alter, Connection, Error, Row};
 use store_data::Name;
 
-/// How a record of a batch stands.
+/// A record of a batch with its state.
 #[derive(Clone, Copy)]
 pub struct RecordAt {
-    /// Its place among the records of its batch, from 0.
+    /// The position of the record in its batch, from 0.
     pub place: u64,
+    /// The name of the record.
     pub name: Name,
+    /// The state of the record.
     pub stands: RecordState,
-    /// How many of its sessions are spoiled.
+    /// The number of spoiled sessions of the record.
     pub spoiled: u64,
-    /// How often it was remade.
+    /// The number of remakes of the record.
     pub remakes: u64,
 }
 
@@ -48,7 +50,7 @@ impl Answered for RecordAt {
     }
 }
 
-/// The record of this name in the batch with this id.
+/// Returns the record with the name `name` in the batch with the id `batch`.
 pub fn record_named<S: Alter>(
     conn: &mut Connection<S>,
     batch: u64,
@@ -67,7 +69,7 @@ pub fn record_named<S: Alter>(
     one_of(conn, sql, &[int(batch), ValueRef::Text(name.bytes())])
 }
 
-/// The record at this place of the batch with this id.
+/// Returns the record at position `place` of the batch with the id `batch`.
 pub fn record_at<S: Alter>(
     conn: &mut Connection<S>,
     batch: u64,
@@ -87,7 +89,7 @@ pub fn record_at<S: Alter>(
     one_of(conn, sql, &[int(batch), int(place)])
 }
 
-/// The records of the batch with this id, by their places.
+/// Returns the records of the batch with the id `batch`, in the order of their positions.
 pub fn records_of<S: Alter>(conn: &mut Connection<S>, batch: u64) -> Result<Vec<RecordAt>, Error>
     requires idle { conn.old.in_transaction ≡ false }
     requires batch { batch < 2 ^ 63 }
@@ -102,7 +104,8 @@ pub fn records_of<S: Alter>(conn: &mut Connection<S>, batch: u64) -> Result<Vec<
     all_of(conn, sql, &[int(batch)])
 }
 
-/// Of the waiting records of the batch with this id the one with the least place.
+/// Returns the first waiting record of the batch with the id `batch`, which is the one with the
+/// lowest position.
 pub fn first_waiting<S: Alter>(
     conn: &mut Connection<S>,
     batch: u64,

@@ -1,4 +1,4 @@
-//! The statements that read kept replies, by client and number.
+//! The statements that read the table `reply`.
 ghost use Rattle.std.specs.Prelude.{◌≡◌, ◌<◌, ◌^◌, ℕ, false, length, option_map, IfOk};
 ghost use Rattle.sqlite.specs.Held.{state};
 ghost use Rattle.job_facts.specs.Contents.{entry_of, reply_of_entry};
@@ -32,7 +32,7 @@ impl Answered for KeptReply {
     }
 }
 
-/// The reply that is kept under a client's number.
+/// Returns the reply that is kept under the number `number` of `client`.
 pub fn kept<S: Alter>(
     conn: &mut Connection<S>,
     client: &Name,
@@ -49,8 +49,8 @@ pub fn kept<S: Alter>(
     one_of(conn, sql, &[ValueRef::Text(client.bytes()), int(number)])
 }
 
-// The number that a count(*) answered. SQL's numbers end, and of more rows than that it answers the
-// last of them, which is refused.
+// Returns the result of a `count(*)`. If there are more rows than the maximum integer of SQLite,
+// the result is that maximum. It is therefore refused with `InvalidQuery`.
 fn whole_count(rows: &[Row]) -> Result<u64, Error>
     ensures { IfOk result (λ n. (m : ℕ) → first_number rows.now ≡ shown_count m → n ≡ m) }
 {
@@ -61,7 +61,7 @@ fn whole_count(rows: &[Row]) -> Result<u64, Error>
     Ok(count)
 }
 
-/// How many replies are kept.
+/// Returns the number of kept replies.
 pub fn reply_count<S: Alter>(conn: &mut Connection<S>) -> Result<u64, Error>
     requires { conn.old.in_transaction ≡ false }
     ensures found { ReadsRows (state S.Store conn.old) (state S.Store conn.new) result

@@ -1,4 +1,4 @@
-//! The statements that read the session table: by number, by machine, and the good of a batch.
+//! The statements that read the table `session`.
 ghost use Rattle.std.specs.Prelude.{◌≡◌, ◌<◌, ◌^◌, false, filter, find, option_map, All, IfOk};
 ghost use Rattle.std.specs.Prelude.{IfSome, IsOk, IsPermutation, map};
 ghost use Rattle.sqlite.specs.Held.{state};
@@ -20,30 +20,33 @@ use sqlite::types::ValueRef;
 use sqlite::{Alter, Connection, Error, Row};
 use store_data::{Cursor, Name};
 
-/// Where a session stands.
+/// A session with its state and its cursor.
 #[derive(Clone, Copy)]
 pub struct SessionAt {
+    /// The machine.
     pub machine: Name,
-    /// The id of its batch.
+    /// The id of the batch.
     pub batch: u64,
-    /// The place of its record among those of the batch, from 0.
+    /// The position of the record in its batch, from 0.
     pub place: u64,
+    /// The state of the session.
     pub stands: SessionState,
-    /// How many words it has.
+    /// The number of status words.
     pub words: u64,
-    /// Where its card stands.
+    /// The cursor of the card.
     pub cursor: Cursor,
 }
 
-/// A card that is good: the place of its record among those of its batch, from 0, and the serial
-/// of its blank.
+/// A good card.
 #[derive(Clone, Copy)]
 pub struct GoodCard {
+    /// The position of the record in its batch, from 0.
     pub place: u64,
+    /// The serial of the blank.
     pub serial: u64,
 }
 
-// The cursor in an answered row.
+// Reads the cursor in columns 5 to 8.
 fn cursor_in(row: &Row) -> Result<Cursor, Error>
     ensures value { IfOk result (λ c. c ≡ cursor_in row.now) }
     ensures ranged { IfOk result IsCursor }
@@ -76,7 +79,7 @@ impl Answered for SessionAt {
     }
 }
 
-/// The session with this id.
+/// Returns the session with the id `id`.
 pub fn session<S: Alter>(conn: &mut Connection<S>, id: u64) -> Result<Option<SessionAt>, Error>
     requires idle { conn.old.in_transaction ≡ false }
     requires id { id < 2 ^ 63 }
@@ -92,7 +95,7 @@ pub fn session<S: Alter>(conn: &mut Connection<S>, id: u64) -> Result<Option<Ses
     one_of(conn, sql, &[int(id)])
 }
 
-/// The id of the session that runs at a machine.
+/// Returns the id of the running session of `machine`.
 pub fn running_session<S: Alter>(
     conn: &mut Connection<S>,
     machine: &Name,
@@ -109,7 +112,7 @@ pub fn running_session<S: Alter>(
     one_of(conn, sql, &[ValueRef::Text(machine.bytes())])
 }
 
-/// The greatest id of a session; 0 where there is no session.
+/// Returns the highest id of a session, or 0 if no session exists.
 pub fn last_session<S: Alter>(conn: &mut Connection<S>) -> Result<u64, Error>
     requires { conn.old.in_transaction ≡ false }
     ensures found { ReadsRows (state S.Store conn.old) (state S.Store conn.new) result
@@ -135,7 +138,7 @@ impl Answered for GoodCard {
     }
 }
 
-/// The good cards of the batch with this id, in any order.
+/// Returns the good cards of the batch with the id `batch`, in any order.
 pub fn good_sessions<S: Alter>(conn: &mut Connection<S>, batch: u64) -> Result<Vec<GoodCard>, Error>
     requires idle { conn.old.in_transaction ≡ false }
     requires batch { batch < 2 ^ 63 }

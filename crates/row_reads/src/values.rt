@@ -1,4 +1,6 @@
-//! The values of an answered row.
+//! Converts the values of columns.
+//!
+//! The functions return `InvalidQuery` if a value has another type or is out of range.
 ghost use Rattle.std.specs.Prelude.{◌≡◌, ◌<◌, ◌≤◌, ◌^◌, length, All, IfOk, IsOk, IsTrue};
 ghost use Rattle.sqlite.specs.Order.{column};
 ghost use Rattle.sql_rows.specs.Decoding.{enc_of_code, flag_in, number_in, record_state_of_code};
@@ -15,7 +17,7 @@ use sqlite::types::ValueRef;
 use sqlite::{Error, Row};
 use store_data::{Bytes, Enc, Name};
 
-// The name that a text is.
+// Converts `text` to a name.
 fn name_of(text: &[u8]) -> Result<Name, Error>
     ensures value { IfOk result (λ name. name ≡ text.now) }
     ensures total { IsTrue (is_name text.now) → IsOk result }
@@ -23,7 +25,7 @@ fn name_of(text: &[u8]) -> Result<Name, Error>
     Name::new(text).ok_or(Error::InvalidQuery)
 }
 
-// The name in this column.
+// Returns the name in column `at`.
 pub(crate) fn name_at(row: &Row, at: usize) -> Result<Name, Error>
     ensures value { IfOk result (λ name. name ≡ text_in (column row.now at)) }
     ensures total { IsNameText (column row.now at) → IsOk result }
@@ -34,7 +36,7 @@ pub(crate) fn name_at(row: &Row, at: usize) -> Result<Name, Error>
     }
 }
 
-// The bytes in this column.
+// Returns the bytes in column `at`.
 pub(crate) fn bytes_at(row: &Row, at: usize) -> Result<Bytes, Error>
     ensures value { IfOk result (λ bytes. bytes ≡ blob_in (column row.now at)) }
     ensures total { IsBlob (column row.now at) → FailsForMemory result }
@@ -43,7 +45,7 @@ pub(crate) fn bytes_at(row: &Row, at: usize) -> Result<Bytes, Error>
     Ok(Bytes::from_vec(items))
 }
 
-// The number in this column.
+// Returns the number in column `at`, which must not be negative.
 pub(crate) fn number_at(row: &Row, at: usize) -> Result<u64, Error>
     ensures value { IfOk result (λ n. n ≡ number_in (column row.now at)) }
     ensures ranged { IfOk result (λ n. n < 2 ^ 63) }
@@ -55,7 +57,7 @@ pub(crate) fn number_at(row: &Row, at: usize) -> Result<u64, Error>
     }
 }
 
-// The number below 2^32 in this column.
+// Returns the number in column `at`, which must be below 2^32.
 pub(crate) fn long_at(row: &Row, at: usize) -> Result<u32, Error>
     ensures value { IfOk result (λ n. n ≡ number_in (column row.now at)) }
     ensures total { IsBelow (2 ^ 32) (column row.now at) → IsOk result }
@@ -63,7 +65,7 @@ pub(crate) fn long_at(row: &Row, at: usize) -> Result<u32, Error>
     u32::try_from(number_at(row, at)?).map_err(|_| Error::InvalidQuery)
 }
 
-// The flag in this column.
+// Returns the flag in column `at`, which must be 0 or 1.
 pub(crate) fn flag_at(row: &Row, at: usize) -> Result<bool, Error>
     ensures value { IfOk result (λ b. b ≡ flag_in (column row.now at)) }
     ensures total { IsBelow 2 (column row.now at) → IsOk result }
@@ -75,7 +77,7 @@ pub(crate) fn flag_at(row: &Row, at: usize) -> Result<bool, Error>
     }
 }
 
-// The number in this column, where it lies between these.
+// Returns the number in column `at`, which must be between `least` and `most`.
 pub(crate) fn within_at(row: &Row, at: usize, least: u32, most: u32) -> Result<u32, Error>
     ensures value { IfOk result (λ n. n ≡ number_in (column row.now at)) }
     ensures least { IfOk result (λ n. least ≤ n) }
@@ -89,9 +91,9 @@ pub(crate) fn within_at(row: &Row, at: usize, least: u32, most: u32) -> Result<u
     Ok(n)
 }
 
-// ---- what numbers stand for
+// ---- codes
 
-// The encipherment mark that a number stands for.
+// Returns the encryption with the code `code`.
 pub(crate) fn enc_of(code: u64) -> Result<Enc, Error>
     ensures value { IfOk result (λ enc. enc ≡ enc_of_code code) }
     ensures total { code < 3 → IsOk result }
@@ -104,7 +106,7 @@ pub(crate) fn enc_of(code: u64) -> Result<Enc, Error>
     }
 }
 
-// The state of a record that a number stands for.
+// Returns the record state with the code `code`.
 pub(crate) fn record_state(code: u64) -> Result<RecordState, Error>
     ensures value { IfOk result (λ stands. stands ≡ record_state_of_code code) }
     ensures total { code < 5 → IsOk result }
@@ -119,7 +121,7 @@ pub(crate) fn record_state(code: u64) -> Result<RecordState, Error>
     }
 }
 
-// The state of a session that a number stands for.
+// Returns the session state with the code `code`.
 pub(crate) fn session_state(code: u64) -> Result<SessionState, Error>
     ensures value { IfOk result (λ stands. stands ≡ session_state_of_code code) }
     ensures total { code < 3 → IsOk result }
@@ -132,9 +134,9 @@ pub(crate) fn session_state(code: u64) -> Result<SessionState, Error>
     }
 }
 
-// ---- answered rows
+// ---- rows
 
-// An id is in the first column.
+// Reads an id from column 0.
 impl Answered for u64 {
     ghost value = { id_in };
 
@@ -147,7 +149,7 @@ impl Answered for u64 {
     }
 }
 
-// A name is behind an id.
+// Reads a name from column 1, after an id.
 impl Answered for Name {
     ghost value = { name_in };
 
@@ -160,7 +162,7 @@ impl Answered for Name {
     }
 }
 
-// The number in the first answered row; 0 where there is none.
+// Returns the number in column 0 of the first row, or 0 if there are no rows.
 pub(crate) fn first_number(rows: &[Row]) -> Result<u64, Error>
     ensures value { IfOk result (λ n. n ≡ first_number rows.now) }
     ensures ranged { IfOk result (λ n. n < 2 ^ 63) }
@@ -169,14 +171,12 @@ pub(crate) fn first_number(rows: &[Row]) -> Result<u64, Error>
     Ok(first::<u64>(rows)?.unwrap_or(0))
 }
 
-// Whether a row is answered.
 pub(crate) fn has_rows(rows: &[Row]) -> bool
     ensures { result ≡ has_rows rows.now }
 {
     !rows.is_empty()
 }
 
-// How many rows are answered.
 pub(crate) fn count(rows: &[Row]) -> u64
     ensures { result ≡ length rows.now }
 {

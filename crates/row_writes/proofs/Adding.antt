@@ -1,4 +1,4 @@
--- What an INSERT makes of the rows, at each of our tables.
+-- The effect of an INSERT on the rows of each table.
 use Rattle.std.proofs.Common.{◌≡◌, ℕ, ◌+◌, ◌/◌, ◌==◌, not, false, true, List, ◌∷◌, ◌++◌, length, map, take, drop, slice_get, Some, Ok}
 use Rattle.std.specs.List.{list_all}
 use Rattle.sqlite.specs.Cast.{cast_row}
@@ -25,7 +25,7 @@ module _ (text : List ℕ) (values : Row) (at : ℕ) (table : Table) (terms : Li
     (old new : State) (count : ℕ) (ran : Executes text values old new (Ok count)) (t u : Tables) (x y : Filled)
     (left : list_all (λ (z : Filled). not (z.table.tree == table.tree)) (take at (filled t)) ≡ true)
     (right : list_all (λ (z : Filled). not (z.table.tree == table.tree)) (drop (at + 1) (filled t)) ≡ true) where
-  -- another filling of its table, as the rows that were put in make it
+  -- the table with the rows after the INSERT
   pub added : x.table ≡ table → filled t ≡ take at (filled t) ++ x ∷ drop (at + 1) (filled t) → filled u ≡ take at (filled t) ++ y ∷ drop (at + 1) (filled t)
       → map (λ (z : Filled). z.table) (take at (filled t) ++ x ∷ drop (at + 1) (filled t)) ≡ our_schema.tables
       → (Inserted our_schema table rows old new → IsFilled x old.now.trees → IsFilled y new.now.trees) → IsImage t old.now → IsImage u new.now

@@ -1,4 +1,4 @@
--- What the resolver reads in each text that changes rows or takes them out.
+-- The meaning of each text that changes or deletes rows.
 use Rattle.std.proofs.Common.{◌≡◌, ℕ, List, [], Some, Ok, slice_get, refl}
 use Rattle.sqlite.specs.Command.TheVariants.{Delete, Update}
 use Rattle.sqlite.specs.Listing.{understood}
@@ -32,7 +32,7 @@ pub changes_mean : ChangesMean
 unfolding understood everything
 changes_mean = record { set_lot = refl; set_totals = refl; set_closed = refl; set_raw = refl; set_record = refl; set_session = refl; set_end = refl; drop_replies = refl; drop_mark = refl }
 
--- what such a statement does to its table
+-- the effect of such a statement on its table
 module _ (text : List ℕ) (values : Row) (at : ℕ) (table : Table) (filters columns : List Term) where
   pub updates : Means text (Update at (record { lets = []; body = from_tree table.tree filters columns })) → slice_get our_schema.tables at ≡ Some table → (old new : State) → old.now.schema ≡ our_schema → (count : ℕ) → Executes text values old new (Ok count)
       → Updated our_schema table (passes filters values) (shown columns values) old new

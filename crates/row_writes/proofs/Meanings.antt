@@ -1,4 +1,4 @@
--- What the resolver reads in each text.
+-- The meaning of each text that inserts rows.
 use Rattle.std.proofs.Common.{◌≡◌, List, ℕ, [], ◌∷◌, Option, None, Some, Result, Ok, Err, refl}
 use Rattle.sqlite.specs.Command.{Command}
 use Rattle.sqlite.specs.Command.TheVariants.{Insert}
@@ -17,12 +17,12 @@ abbrev plain_of : Command → Option Returning → List (List ℕ) → Option Co
 plain_of command None [] = Some command
 plain_of command _ _ = None
 
--- the command of a text that has no RETURNING and does not read the time
+-- the command of a text that has no RETURNING and doesn't read the time
 abbrev pub plain_in : Result Compiled CompileError → Option Command
 plain_in (Ok c) = plain_of c.command c.returning c.formats
 plain_in (Err e) = None
 
--- at our schema the text means this command
+-- In the current schema, the text means this command.
 abbrev pub Means : List ℕ → Command → Type 0
 Means text command = plain_in (understood our_schema text) ≡ Some command
 
@@ -38,7 +38,7 @@ is_plain_in (Err error) wanted e = absurd (cc)
 pub read_as : (text : List ℕ) (command : Command) → Means text command → (command_of (understood our_schema text) ≡ command) × IsPlain (understood our_schema text)
 read_as text = is_plain_in (understood our_schema text)
 
--- that one row is put into each table, or sixteen
+-- The texts insert one row into each table, or sixteen rows.
 pub record AddsMean : Type 0 where
   pub products : Means add_product_text (Insert 1 (Values add_product_terms 5))
   pub lots : Means add_lot_text (Insert 2 (Values add_lot_terms 6))

@@ -1,4 +1,4 @@
--- What each INSERT does to the rows.
+-- The effect of each INSERT on the rows.
 use Rattle.std.proofs.Common.{ℕ, [], ◌∷◌, map, Ok, refl}
 use Rattle.sqlite.specs.declared.types.Value.TheVariants.{Null, Text}
 use Rattle.sqlite.specs.Order.{Row}

@@ -1,4 +1,4 @@
--- What the INSERT of a batch does to the rows.
+-- The effect of the INSERT of a batch on the rows.
 use Rattle.std.proofs.Common.{ℕ, List, [], ◌∷◌, drop, map, Ok, refl}
 use Rattle.sqlite.specs.declared.types.Value.TheVariants.{Blob, Text}
 use Rattle.sqlite.specs.Order.{Row}

@@ -1,4 +1,4 @@
--- What each INSERT of a session or a blank does to the rows.
+-- The effect of each INSERT of a session or a blank on the rows.
 use Rattle.std.proofs.Common.{ℕ, List, [], ◌∷◌, drop, map, Ok, refl}
 use Rattle.sqlite.specs.declared.types.Value.TheVariants.{Text}
 use Rattle.sqlite.specs.Order.{Row}

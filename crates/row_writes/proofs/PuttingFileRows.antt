@@ -1,4 +1,4 @@
--- What each INSERT of records, or of rows of a batch file, does to the rows.
+-- The effect of each INSERT of records or rows of a batch file on the rows.
 use Rattle.std.proofs.Common.{◌≡◌, ℕ, ◌/◌, List, [], ◌∷◌, ◌++◌, length, map, Ok, refl, ap, ◌∙◌}
 use Rattle.std.proofs.lemmas.List.{map-append}
 use Rattle.std.specs.List.{flat_map}
@@ -20,7 +20,7 @@ use Rattle.row_writes.proofs.Adding.{added}
 use Rattle.row_writes.proofs.Many.{all_same, given}
 use Rattle.row_writes.proofs.Meanings.{Means, adds_mean}
 
--- by the text that puts so many records in
+-- the text that inserts `count` records
 module _ (text : List ℕ) (count : ℕ) (whole : ◌≡◌ {A = ℕ} (length (rows_terms 6 0 count) / 7) count) (means : Means text (Insert 4 (Values (rows_terms 6 0 count) 7)))
     (xs : List StoredRecord) (many : length xs ≡ count) (old new : State) (changed : ℕ) (ran : Executes text (flat_map record_row xs) old new (Ok changed)) where
   records_put : Moves (with_records xs) old.now new.now
@@ -39,7 +39,7 @@ record_added x old new changed ran = records_put add_record_text 1 refl adds_mea
 pub records_added : (xs : List StoredRecord) → length xs ≡ 16 → (old new : State) (changed : ℕ) → Executes add_records_text (flat_map record_row xs) old new (Ok changed) → Moves (with_records xs) old.now new.now
 records_added xs many old new changed ran = records_put add_records_text 16 refl adds_mean.many_records xs many old new changed ran
 
--- by the text that puts so many groupings in
+-- the text that inserts `count` groupings
 module _ (text : List ℕ) (count : ℕ) (whole : ◌≡◌ {A = ℕ} (length (rows_terms 8 0 count) / 9) count) (means : Means text (Insert 5 (Values (rows_terms 8 0 count) 9)))
     (xs : List StoredGrouping) (many : length xs ≡ count) (old new : State) (changed : ℕ) (ran : Executes text (flat_map grouping_row xs) old new (Ok changed)) where
   groupings_put : Moves (with_groupings xs) old.now new.now

@@ -1,4 +1,4 @@
--- What each DELETE does to the rows.
+-- The effect of each DELETE on the rows.
 use Rattle.std.proofs.Common.{ℕ, [], ◌∷◌, map, take, drop, filter, not, List, Ok, refl}
 use Rattle.sqlite.specs.declared.types.Value.TheVariants.{Text}
 use Rattle.sqlite.specs.Order.{Row}

@@ -1,4 +1,4 @@
--- What each UPDATE does to the rows.
+-- The effect of each UPDATE on the rows.
 use Rattle.std.proofs.Common.{◌≡◌, ℕ, ℤ, [], ◌∷◌, map, take, drop, ◌==◌, ◌&&◌, bytes_eq, true, List, Ok, refl, ap, ◌∙◌}
 use Rattle.sqlite.specs.declared.types.Value.{Value}
 use Rattle.sqlite.specs.declared.types.Value.TheVariants.{Blob, Int, Null, Text}
@@ -25,7 +25,7 @@ use Rattle.row_writes.specs.Raw.{raw_set, with_raw_set}
 use Rattle.row_writes.specs.Changes.{by_first_column, by_place, by_second_column, set_closed_columns, set_closed_text, set_end_columns, set_end_text, set_lot_columns, set_lot_text, set_raw_columns, set_raw_text, set_record_columns, set_record_text, set_totals_columns, set_totals_text}
 use Rattle.row_writes.proofs.ChangeMeanings.{changes_mean, updates}
 
--- an integer under which a row is put back is the rowid that it had
+-- A row that is put back keeps its integer rowid.
 kept_id : (v : Value) (n : ℤ) → v ≡ Int n → cast Integer v ≡ Int n
 kept_id v n is = ap (cast Integer) is ∙ cast_int n
 

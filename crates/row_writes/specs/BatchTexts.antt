@@ -1,4 +1,4 @@
--- The texts of the statements that write a batch, and the values that they put in.
+-- The texts of the statements that write a batch, and the values that they insert.
 use Rattle.std.specs.Prelude.{List, ℕ, zero, suc, ◌+◌, pos, [], ◌∷◌, ◌++◌, codes, map}
 use Rattle.std.specs.List.{range_with_len}
 use Rattle.sqlite.specs.declared.types.Value.TheVariants.{Int, Null}
@@ -15,11 +15,11 @@ add_batch_terms = col 0 0 ∷ lit Null ∷ col 0 1 ∷ col 0 2 ∷ col 0 3 ∷ n
 
 -- ---- records and rows of a batch file
 
--- a row whose columns, but for the rowid, are so many parameters from this one on
+-- a row whose columns, except the rowid, are `width` parameters from number `first` on
 abbrev pub row_terms : ℕ → ℕ → List Term
 row_terms width first = lit Null ∷ map (col 0) (range_with_len first width)
 
--- so many rows, one after the other
+-- `count` rows, one after the other
 abbrev pub rows_terms : ℕ → ℕ → ℕ → List Term
 rows_terms width first zero = []
 rows_terms width first (suc count) = row_terms width first ++ rows_terms width (first + width) count

@@ -1,4 +1,4 @@
--- The texts of the statements that change rows or take them out, and what they ask and show.
+-- The texts of the statements that change or delete rows, their conditions, and their new values.
 use Rattle.std.specs.Prelude.{List, ℕ, pos, [], ◌∷◌, codes}
 use Rattle.sqlite.specs.Collation.TheVariants.{Binary}
 use Rattle.sqlite.specs.declared.types.Value.TheVariants.{Int, Null}
@@ -7,7 +7,7 @@ use Rattle.sqlite_sql.specs.declared.ops.BinaryOp.TheVariants.{Compare}
 use Rattle.sqlite_sql.specs.declared.ops.CompareOp.TheVariants.{Le}
 use Rattle.sql_base.specs.Queries.{is_equal}
 
--- the first column after the rowid is the first parameter
+-- The first column after the rowid is the first parameter.
 abbrev pub by_first_column : List Term
 by_first_column = is_equal (col 1 1) (col 0 0) ∷ []
 
@@ -27,7 +27,7 @@ set_totals_columns =
 abbrev pub set_closed_text : List ℕ
 set_closed_text = codes "UPDATE batch SET closed = 1 WHERE name = ?1"
 
--- the first column after an id is the first parameter
+-- The first column after the id is the first parameter.
 abbrev pub by_second_column : List Term
 by_second_column = is_equal (col 1 2) (col 0 0) ∷ []
 
@@ -45,7 +45,7 @@ set_raw_columns =
 abbrev pub set_record_text : List ℕ
 set_record_text = codes "UPDATE record SET state = ?3, spoiled = ?4, remakes = ?5 WHERE batch = ?1 AND place = ?2"
 
--- the first two columns after the rowid are the first two parameters
+-- The first two columns after the rowid are the first two parameters.
 abbrev pub by_place : List Term
 by_place = is_equal (col 1 1) (col 0 0) ∷ is_equal (col 1 2) (col 0 1) ∷ []
 
@@ -62,13 +62,13 @@ set_end_columns =
 abbrev pub drop_replies_text : List ℕ
 drop_replies_text = codes "DELETE FROM reply WHERE client = ?1 AND number <= ?2"
 
--- the client is the first parameter, and the number is at most the second
+-- The client is the first parameter, and the number is at most the second.
 abbrev pub by_client_up_to : List Term
 by_client_up_to = is_equal (col 1 1) (col 0 0) ∷ op2 (Compare Le Binary) (col 1 2) (col 0 1) ∷ []
 
 abbrev pub drop_mark_text : List ℕ
 drop_mark_text = codes "DELETE FROM mark WHERE client = ?1"
 
--- the rowid alone
+-- only the rowid
 abbrev pub rowid_column : List Term
 rowid_column = col 1 0 ∷ []

@@ -1,8 +1,8 @@
--- The bytes of a batch, set behind its records.
+-- The bytes of a batch, which are set after its records are inserted.
 use Rattle.std.specs.Prelude.{◌==◌, ℕ, if◌then◌else◌, List, map}
 use Rattle.table_rows.specs.Tables.{StoredBatch, Tables}
 
--- the batch with this id has these bytes
+-- the batch, with the bytes `raw` if its id is `id`
 abbrev pub raw_set : ℕ → List ℕ → StoredBatch → StoredBatch
 raw_set id raw b = if b.id == id then record b { raw = raw } else b
 

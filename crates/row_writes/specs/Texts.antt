@@ -1,4 +1,5 @@
--- The texts of the statements that write, and the values that they put in.
+-- The texts of the statements that insert rows, with the values that they insert, and of the
+-- statement that changes a session.
 use Rattle.std.specs.Prelude.{List, ℕ, pos, [], ◌∷◌, codes}
 use Rattle.sqlite.specs.declared.types.Value.TheVariants.{Int, Null}
 use Rattle.sqlite.specs.Query.{Query}
@@ -26,7 +27,7 @@ add_word_terms = lit Null ∷ col 0 0 ∷ col 0 1 ∷ col 0 2 ∷ []
 abbrev pub set_session_text : List ℕ
 set_session_text = codes "UPDATE session SET state = ?2, words = ?3, app = ?4, segment = ?5, at_offset = ?6, block = ?7 WHERE id = ?1"
 
--- the rowid is the first parameter
+-- The rowid is the first parameter.
 abbrev pub by_id : List Term
 by_id = is_equal (col 1 0) (col 0 0) ∷ []
 

@@ -1,4 +1,5 @@
-//! The row of a batch, in an open transaction. A crash before its end leaves nothing of it.
+//! Inserts the row of a batch, in an open transaction. A crash before its commit leaves no trace of
+//! it.
 ghost use Rattle.std.specs.Prelude.{◌≡◌, ◌<◌, ◌^◌};
 ghost use Rattle.sqlite.specs.Held.{state};
 ghost use Rattle.sqlite.specs.State.{Survives};
@@ -12,7 +13,7 @@ use sqlite::types::ValueRef;
 use sqlite::{Alter, Error, Transaction};
 use store_data::{Enc, Name};
 
-/// The number that stands for which groupings of a segment are enciphered.
+/// Returns the number that is stored for `enc`.
 pub fn enc_code(enc: Enc) -> u64
     ensures { result ≡ enc_code enc }
 {
@@ -23,7 +24,7 @@ pub fn enc_code(enc: Enc) -> u64
     }
 }
 
-/// Adds a batch of so many records, which all wait.
+/// Adds a batch with `records` records, which are all waiting.
 pub fn add_batch<'x, S: Alter>(
     tx: &mut Transaction<'_, S>,
     id: u64,

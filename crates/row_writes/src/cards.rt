@@ -1,5 +1,5 @@
-//! Sessions, their words and their blanks, in an open transaction. A crash before its end leaves
-//! nothing of it.
+//! Writes sessions, their status words and their blanks, in an open transaction. A crash before its
+//! commit leaves no trace of them.
 ghost use Rattle.std.specs.Prelude.{◌≡◌, ◌<◌, ◌^◌};
 ghost use Rattle.sqlite.specs.Held.{state};
 ghost use Rattle.sqlite.specs.State.{Survives};
@@ -16,7 +16,7 @@ use sqlite::{Alter, Error, Transaction};
 use store_data::{Cursor, Name};
 use table_rows::RecordPlace;
 
-/// The number that stands for a session's state.
+/// Returns the number that is stored for the session state `stands`.
 pub fn session_code(stands: SessionState) -> u64
     ensures { result ≡ session_code stands }
 {
@@ -27,7 +27,7 @@ pub fn session_code(stands: SessionState) -> u64
     }
 }
 
-/// Adds a word at a place of its session.
+/// Adds the status word `sw` at position `place` of `session`.
 pub fn add_word<S: Alter>(
     tx: &mut Transaction<'_, S>,
     session: u64,
@@ -52,7 +52,7 @@ pub fn add_word<S: Alter>(
     )
 }
 
-/// Sets how a session stands, how many words it has, and where its card stands.
+/// Sets the state of `session`, the number of its status words, and the cursor of its card.
 pub fn set_session<S: Alter>(
     tx: &mut Transaction<'_, S>,
     session: u64,
@@ -83,7 +83,7 @@ pub fn set_session<S: Alter>(
     )
 }
 
-/// Adds a session of a record, which runs and stands at its first command.
+/// Adds a running session for a record, with the cursor at the first command.
 pub fn add_session<S: Alter>(
     tx: &mut Transaction<'_, S>,
     id: u64,
@@ -114,7 +114,7 @@ pub fn add_session<S: Alter>(
     )
 }
 
-/// Adds a blank of a lot, opened or discarded.
+/// Adds a charged blank of `lot`, opened or discarded.
 pub fn add_blank<S: Alter>(
     tx: &mut Transaction<'_, S>,
     serial: u64,

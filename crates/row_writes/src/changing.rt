@@ -1,4 +1,4 @@
-//! Rows that change, in an open transaction. A crash before its end leaves nothing of it.
+//! Changes rows, in an open transaction. A crash before its commit leaves no trace of the change.
 ghost use Rattle.std.specs.Prelude.{◌≡◌, ◌<◌, ◌^◌};
 ghost use Rattle.sqlite.specs.Held.{state};
 ghost use Rattle.sqlite.specs.State.{HasCleanDisk, Survives};
@@ -15,7 +15,7 @@ use sqlite::types::ValueRef;
 use sqlite::{Alter, Error, Transaction};
 use store_data::Name;
 
-/// The number that stands for a record's state.
+/// Returns the number that is stored for the record state `stands`.
 pub fn record_code(stands: RecordState) -> u64
     ensures { result ≡ record_code stands }
 {
@@ -28,7 +28,7 @@ pub fn record_code(stands: RecordState) -> u64
     }
 }
 
-/// Sets how many blanks of a lot are discarded.
+/// Sets the number of discarded blanks of the lot `name`.
 pub fn set_lot<S: Alter>(
     tx: &mut Transaction<'_, S>,
     name: &Name,
@@ -47,7 +47,7 @@ pub fn set_lot<S: Alter>(
     )
 }
 
-/// Sets a batch's counters.
+/// Sets the counters of the batch with id `batch`.
 pub fn set_totals<S: Alter>(
     tx: &mut Transaction<'_, S>,
     batch: u64,
@@ -83,7 +83,7 @@ pub fn set_totals<S: Alter>(
     )
 }
 
-/// Sets a batch's bytes.
+/// Sets the bytes of the batch with id `batch`.
 pub fn set_raw<S: Alter>(
     tx: &mut Transaction<'_, S>,
     batch: u64,
@@ -104,7 +104,7 @@ pub fn set_raw<S: Alter>(
     )
 }
 
-/// Closes a batch.
+/// Closes the batch `name`.
 pub fn set_closed<S: Alter>(tx: &mut Transaction<'_, S>, name: &Name) -> Result<usize, Error>
     ensures same_reference { tx.new.conn.ghost_name ≡ tx.old.conn.ghost_name }
     ensures wrote { WritesRows (with_closed_set name.now) (state S.Store tx.old.conn.now)
@@ -118,8 +118,8 @@ pub fn set_closed<S: Alter>(tx: &mut Transaction<'_, S>, name: &Name) -> Result<
     )
 }
 
-/// Sets how the record at a place of a batch stands, how many of its sessions are spoiled, and how
-/// often it was remade.
+/// Sets the state of the record at position `place` of the batch with id `batch`, and the numbers
+/// of its spoiled sessions and remakes.
 pub fn set_record<S: Alter>(
     tx: &mut Transaction<'_, S>,
     batch: u64,
@@ -150,7 +150,7 @@ pub fn set_record<S: Alter>(
     )
 }
 
-/// Ends a session by a reset, so that it is spoiled.
+/// Ends a session that was aborted or reset: the session is spoiled.
 pub fn set_end<S: Alter>(tx: &mut Transaction<'_, S>, session: u64) -> Result<usize, Error>
     requires { session < 2 ^ 63 }
     ensures same_reference { tx.new.conn.ghost_name ≡ tx.old.conn.ghost_name }

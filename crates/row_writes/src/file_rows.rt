@@ -1,5 +1,6 @@
-//! The rows of a batch file and its records, one by one or sixteen by one statement, which takes
-//! less time than sixteen statements. A crash before the transaction's end leaves nothing of them.
+//! Inserts the records and rows of a batch file, one or sixteen per statement. One statement for
+//! sixteen rows is faster than sixteen statements. A crash before the commit leaves no trace of
+//! them.
 ghost use Rattle.std.specs.Prelude.{◌≡◌, IfOk, length, map};
 ghost use Rattle.std.specs.List.{flat_map};
 ghost use Rattle.sqlite.specs.Held.{state};
@@ -18,10 +19,10 @@ use sqlite::types::ValueRef;
 use sqlite::{Alter, Error, Transaction};
 use std::alloc::{AllocError, Global};
 
-/// How many rows `add_records` and `add_groupings` add.
+/// The number of rows that `add_records` and `add_groupings` add.
 pub const ROWS_AT_ONCE: usize = 16;
 
-// The values of a record, in the order of the columns.
+// Returns the values of a record, in the order of the columns.
 fn record_values(it: &NewRecord) -> [ValueRef<'_>; 6]
     ensures { bound result ≡ record_row (record_of it.now) }
 {
@@ -35,7 +36,7 @@ fn record_values(it: &NewRecord) -> [ValueRef<'_>; 6]
     ]
 }
 
-// The values of a row of a batch file, in the order of the columns.
+// Returns the values of a row of a batch file, in the order of the columns.
 fn grouping_values(it: &FileRow) -> [ValueRef<'_>; 8]
     ensures { bound result ≡ grouping_row (grouping_of it.now) }
 {
@@ -51,7 +52,7 @@ fn grouping_values(it: &FileRow) -> [ValueRef<'_>; 8]
     ]
 }
 
-// The values of records, one after the other.
+// Returns the values of all records, one after the other.
 fn all_record_values(alloc: Global, records: &[NewRecord]) -> Result<Vec<ValueRef<'_>>, AllocError>
     ensures { IfOk result (λ values.
         bound values.items ≡ flat_map record_row (map record_of records.now)) }
@@ -63,7 +64,7 @@ fn all_record_values(alloc: Global, records: &[NewRecord]) -> Result<Vec<ValueRe
     Ok(values)
 }
 
-// The values of rows of a batch file, one after the other.
+// Returns the values of all rows, one after the other.
 fn all_grouping_values(alloc: Global, rows: &[FileRow]) -> Result<Vec<ValueRef<'_>>, AllocError>
     ensures { IfOk result (λ values.
         bound values.items ≡ flat_map grouping_row (map grouping_of rows.now)) }

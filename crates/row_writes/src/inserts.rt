@@ -1,4 +1,4 @@
-//! One row more, in an open transaction. A crash before its end leaves nothing of it.
+//! Inserts single rows, in an open transaction. A crash before its commit leaves no trace of them.
 ghost use Rattle.std.specs.Prelude.{◌≡◌, ◌<◌, ◌^◌};
 ghost use Rattle.sqlite.specs.Held.{state};
 ghost use Rattle.sqlite.specs.State.{HasCleanDisk, Survives};
@@ -36,7 +36,7 @@ pub fn add_product<S: Alter>(tx: &mut Transaction<'_, S>, product: &Product) -> 
     )
 }
 
-/// Adds a lot, of which no blank is discarded.
+/// Adds a lot without discarded blanks.
 pub fn add_lot<S: Alter>(tx: &mut Transaction<'_, S>, lot: &Lot) -> Result<usize, Error>
     requires { lot.now.first < 2 ^ 63 }
     ensures same_reference { tx.new.conn.ghost_name ≡ tx.old.conn.ghost_name }
@@ -57,7 +57,7 @@ pub fn add_lot<S: Alter>(tx: &mut Transaction<'_, S>, lot: &Lot) -> Result<usize
     )
 }
 
-/// Adds a turn in which the record at a place of a batch was remade.
+/// Adds the remake number `turn` of the record at position `place` of the batch with id `batch`.
 pub fn add_remake<S: Alter>(
     tx: &mut Transaction<'_, S>,
     batch: u64,
@@ -86,7 +86,7 @@ pub fn add_remake<S: Alter>(
     )
 }
 
-/// Keeps a reply under its client's number.
+/// Adds a kept reply.
 pub fn add_reply<S: Alter>(tx: &mut Transaction<'_, S>, entry: &Entry<'_>) -> Result<usize, Error>
     requires { entry.now.number < 2 ^ 63 }
     ensures same_reference { tx.new.conn.ghost_name ≡ tx.old.conn.ghost_name }
@@ -107,7 +107,7 @@ pub fn add_reply<S: Alter>(tx: &mut Transaction<'_, S>, entry: &Entry<'_>) -> Re
     )
 }
 
-/// Marks a client's numbers as released up to this one.
+/// Adds the release mark `upto` of `client`.
 pub fn add_mark<S: Alter>(
     tx: &mut Transaction<'_, S>,
     client: &Name,

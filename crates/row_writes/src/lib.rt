@@ -1,4 +1,4 @@
-//! What each statement that writes does to the rows of our tables.
+//! The statements that write, and their effects on the rows of the tables.
 #![tactic(auto)]
 
 mod batches;

@@ -1,9 +1,9 @@
-//! What an import adds beside its batch: records, and the rows of its file.
+//! The rows that an import adds for its batch: records, and the rows of the batch file.
 ghost use Rattle.std.specs.Prelude.{◌<◌, ◌^◌};
 
 use store_data::{Name, Row};
 
-/// A waiting record at a place of the batch with this id.
+/// A waiting record at position `place` of the batch with id `batch`.
 #[derive(Clone, Copy)]
 pub struct NewRecord {
     pub batch: u64,
@@ -12,7 +12,8 @@ pub struct NewRecord {
     ghost batch_in_range: { batch < 2 ^ 63 },
 }
 
-/// A row of the file of the batch with this id, with its row number, for the record at a place.
+/// A row of a batch file, with its row number `line`, for the record at position `place` of the
+/// batch with id `batch`.
 #[derive(Drop)]
 pub struct FileRow {
     pub batch: u64,

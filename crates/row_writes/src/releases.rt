@@ -1,4 +1,4 @@
-//! Rows that go, in an open transaction. A crash before its end leaves nothing of it.
+//! Deletes rows, in an open transaction. A crash before its commit leaves no trace of the deletion.
 ghost use Rattle.std.specs.Prelude.{◌≡◌, ◌<◌, ◌^◌};
 ghost use Rattle.sqlite.specs.Held.{state};
 ghost use Rattle.sqlite.specs.State.{Survives};
@@ -10,7 +10,7 @@ use sqlite::types::ValueRef;
 use sqlite::{Alter, Error, Transaction};
 use store_data::Name;
 
-/// Drops the replies that are kept under a client's numbers up to this one.
+/// Deletes the replies that are kept under request numbers of `client` up to `upto`.
 pub fn drop_replies<S: Alter>(
     tx: &mut Transaction<'_, S>,
     client: &Name,
@@ -29,7 +29,7 @@ pub fn drop_replies<S: Alter>(
     )
 }
 
-/// Drops a client's release mark.
+/// Deletes the release mark of `client`.
 pub fn drop_mark<S: Alter>(tx: &mut Transaction<'_, S>, client: &Name) -> Result<usize, Error>
     ensures same_reference { tx.new.conn.ghost_name ≡ tx.old.conn.ghost_name }
     ensures wrote { WritesRows (without_mark client.now) (state S.Store tx.old.conn.now)

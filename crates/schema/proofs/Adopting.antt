@@ -1,4 +1,4 @@
--- From the rows that a database held to the contents of a store.
+-- Lemmas: from the rows of a database to the contents of a store.
 use Rattle.std.proofs.Common.{◌≡◌, ◌⊎◌, Option, None, Some, inl, inr, sym, subst}
 use Rattle.sqlite.specs.Effect.{Database}
 use Rattle.sqlite.specs.Tree.{Trees}
@@ -18,15 +18,15 @@ use Rattle.schema.specs.Begun.{WasHeld}
 use Rattle.schema.specs.Link.{Stands, link}
 use Rattle.schema.proofs.Link.{RowsLaw, found, has_image, image_had, shown_at}
 
--- a database holds the rows of one image alone
+-- A database has the rows of only one image.
 abbrev pub OneLaw : Type 0
 OneLaw = (v w : Version) (t u : Tables) (db : Database) → HoldsRows v t db → HoldsRows w u db → HaveSameRows t u
 
--- it holds them in any order
+-- A database has these rows in any order.
 abbrev pub OrderLaw : Type 0
 OrderLaw = (v : Version) (t u : Tables) (db : Database) → HaveSameRows t u → HoldsRows v u db → HoldsRows v t db
 
--- whatever contents were held, their image is what came of them
+-- the opened database has the image of any contents that the database had
 image_of : OneLaw → (v : Version) (c : Contents) (old new : Database) → HoldsRows v (image c) old → Adopts old new → IsImage (image c) new
 image_of one v c old new held made = same_rows (image c) (image made.contents) new (one v made.version (image c) (image made.contents) old held made.held) made.stands
 

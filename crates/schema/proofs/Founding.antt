@@ -1,4 +1,4 @@
--- From newly made tables to a store without contents.
+-- Lemmas: from newly created tables to a store without contents.
 use Rattle.std.proofs.Common.{◌≡◌, ◌⊎◌, Option, inl, inr, refl, sym, subst, IsTrue}
 use Rattle.sqlite.specs.Effect.{Database}
 use Rattle.sqlite.specs.State.{State, Survives}
@@ -26,7 +26,7 @@ founded a b none makes = subst (λ t. IsImage t b) (sym nothing_is) (newly_fille
 pub holds_nothing : (old new : State) → (old.now.schema ≡ no_schema) × Ends MakesAll old new → AreSound no_contents × (IsTrue new.is_open → IsImage (image no_contents) new.now)
 holds_nothing old new it = (nothing_sound, λ live. founded old.now new.now it.0 it.1.made)
 
--- what an open may find
+-- the contents that an open may find
 module _ (law : RowsLaw) (old new : State) (d : Option Contents) (left : (link new 0 0).may_leave d) where
   left_nothing : (db : Database) → old.now.schema ≡ no_schema → MakesAll old.now db → left.0 ≡ db.trees → IsFound d no_contents
   left_nothing db none founds is = found law no_contents nothing_sound db (founded old.now db none founds) left.0 is d left.2
@@ -38,7 +38,7 @@ module _ (law : RowsLaw) (old new : State) (d : Option Contents) (left : (link n
   before_or_nothing (inl before) = inl (left.0, before, left.2)
   before_or_nothing (inr it) = inr (left_nothing it.1.1.0 it.0 it.1.1.1 it.1.1.2)
 
--- what tables that are made in an empty database leave
+-- the trees that a crash may leave while tables are created in an empty database
 pub left_made : (old new : State) → old.now.schema ≡ no_schema → Survives old new (IsLeft MakesAll old) → LeavesNoOther old new
 left_made old new none survives clean trees may =
     elim (survives.crash clean trees may) [

@@ -1,4 +1,5 @@
--- What a store knows of records stays so behind its commits, and begins with nothing.
+-- Lemmas: the cache of a store is empty at first, and it agrees with the database after each read
+-- and each commit.
 use Rattle.std.proofs.Common.{◌≡◌, All, IfSome, Result, Ok, Err, OnErr, OnOk, sym, subst}
 use Rattle.std.proofs.Math.Logic.{∥∥₁_map}
 use Rattle.std.proofs.lemmas.List.Elements.{All-nil}
@@ -29,13 +30,13 @@ use Rattle.schema.proofs.Founding.{founded}
 -- ---- a commit
 
 module _ (w : Writing) (entry : Entry) (old new : State) (before after : Known) (knows : Knows old before) (early : HasCleanDisk new → HasCleanDisk old) where
-  -- it is made
+  -- the commit succeeds
   pub knows_made : ((t : Tables) → IsAllKnownIn t before → IsAllKnownIn (rows_written w entry t) after) → (HasCleanDisk new → Ends (Moves (rows_written w entry)) old new) → Knows new after
   knows_made moves ok clean live =
       let k = ok clean in
       record { rows = ∥∥₁_map (knows (early clean) k.was_open).rows (λ it. (rows_written w entry it.0, k.made it.0 it.1, moves it.0 it.2)) }
 
-  -- or it is not
+  -- the commit fails
   pub knows_unmade : ((t : Tables) → IsAllKnownIn t before → IsAllKnownIn t after) → (HasCleanDisk new → IsKept old new) → Knows new after
   knows_unmade stays err clean live =
       let k = err clean in
@@ -46,7 +47,7 @@ module _ (w : Writing) (entry : Entry) (old new : State) (before after : Known) 
   knows_written stays moves (Ok x) ok err = knows_made moves ok
   knows_written stays moves (Err e) ok err = knows_unmade stays err
 
--- ---- the beginning
+-- ---- a new store
 
 none_known : (t : Tables) (known : Known) → KnowsNothing known → IsAllKnownIn t known
 none_known t known none = record {

@@ -1,4 +1,4 @@
--- What an opening finds at trees that a crash left.
+-- Lemmas about opening a database from the trees that a crash left.
 use Rattle.std.proofs.Common.{◌≡◌, ◌≢◌, ◌∙◌, ◌⊎◌, Option, None, Some, Result, Ok, Err, IfErr, IfOk, IsTrue, inl, inr, refl, sym, ap, subst}
 use Rattle.sqlite.specs.Effect.{Database}
 use Rattle.sqlite.specs.Held.{Held, state}
@@ -29,9 +29,9 @@ use Rattle.schema.specs.Link.{Has, Stands, link}
 use Rattle.schema.proofs.Adopting.{OneLaw, OrderLaw, holds_them, leaves_them, left_late}
 use Rattle.schema.proofs.Link.{RowsLaw, Shows, has_there, shown_at}
 
--- ---- a database has one contents alone
+-- ---- a database has only one contents
 
--- an empty one has no table
+-- an empty database has no table
 not_empty : (v : Version) (t : Tables) (db : Database) → HoldsRows v t db → db.schema ≢ no_schema
 not_empty v t db held none =
     let it = held.version in
@@ -45,7 +45,7 @@ module _ (law : RowsLaw) (one : OneLaw) (v : Version) (c : Contents) (sound : Ar
   has_one d fine (inl there) = law d c fine sound (one there.0 v (image d) (image c) db there.1 held)
   has_one d fine (inr none) = absurd (not_empty v (image c) db held none.0)
 
-  -- an open finds them
+  -- an open finds these contents
   shows_one : (d : Option Contents) → Shows d db → IsFound d c
   shows_one None none = absurd (none c sound (inl (v, held)))
   shows_one (Some d) shown = has_one d shown.0 shown.1
@@ -63,7 +63,7 @@ module _ (db : Database) (empty : db.schema ≡ no_schema) where
   shows_nothing None none = absurd (none no_contents nothing_sound (inr (empty, refl)))
   shows_nothing (Some d) shown = has_nothing d shown.1
 
--- ---- what is taken, and what is refused
+-- ---- databases that are opened, and databases that are refused
 
 pub adopted_at : RowsLaw → OneLaw → (old new : State) → IsLive old → Comes Adopts old new → TakesAt old.now.trees (link new 0 0)
 adopted_at rows one old new live comes =
@@ -80,7 +80,7 @@ pub created_at : (old new : State) → IsLive old → IsTrue old.is_open → old
 created_at old new live is_open empty opens =
     (no_contents, (nothing_sound, record { db = old.now; is_database = (live is_open).0; stands = refl; has = inr (empty, refl) }), opens)
 
--- a database of our tables that is refused has no sound contents
+-- a database that is refused, and isn't empty, has no sound contents
 pub none_at : (old : State) (e : OpenFault) → IsLive old → IsTrue old.is_open → (e ≡ fault.NotOurs → (v : Version) → ¬ IsOfVersion v old.now)
     → (e ≡ fault.Damaged → (v : Version) → ¬ HoldsSoundRows v old.now) → IsRefusal e → old.now.schema ≢ no_schema → Stands None old.now.trees
 none_at old fault.NotOurs live is_open not_ours damaged is some =
@@ -89,7 +89,7 @@ none_at old fault.Damaged live is_open not_ours damaged is some =
     λ c sound at. elim (has_there old.now old.now.trees c (live is_open).0 refl at) [ inl h ↦ damaged refl h.0 (c, sound, h.1) | inr e ↦ some e.0 ]
 none_at old (fault.Store why) live is_open not_ours damaged is some = absurd is
 
--- ---- what a call that fails leaves
+-- ---- after a call that fails
 
 found_as : (d : Option Contents) (b c : Contents) → IsFound d b → AreSame b c → IsFound d c
 found_as None b c found same = found
@@ -97,7 +97,7 @@ found_as (Some x) b c found same = AreSame-trans x b c found same
 
 module _ {S : Type 0} (g : Ghosts S) (law : (s : S) (db : Trees) → IsTrue (g.view s).is_open → g.recovers s db → db ≡ (g.view s).committed) (old : Held S)
     (is_open : IsTrue (state g old).is_open) (settled : IsTrue (state g old).is_open → (state g old).now ≡ (state g old).committed) (live : IsLive (state g old)) where
-  -- outside a transaction a crash leaves what is shown
+  -- outside a transaction, a crash leaves the current trees
   left_shown : (trees : Trees) → (state g old).may_leave trees → trees ≡ (state g old).now.trees
   left_shown trees may = law old.store trees is_open may ∙ ap (λ (d : Database). d.trees) (sym (settled is_open))
 
@@ -123,7 +123,7 @@ module _ {S : Type 0} (g : Ghosts S) (law : (s : S) (db : Trees) → IsTrue (g.v
   failed_create empty d (inl before) = shows_nothing (state g old).now empty d (shown d before)
   failed_create empty d (inr found) = found
 
-  -- where an open finds one of two contents, it does so behind a call that failed
+  -- if an open finds one of two contents, this is still true after a call that fails
   module _ (new : State) (before after : Contents) (either : HasEither (state g old).now.trees before after) where
     pub either_adopt : ((d : Option Contents) → (link new 0 0).may_leave d → (link (state g old) 0 0).may_leave d ⊎ WasHeld d (state g old).now) → FindsEither (link new 0 0).may_leave before after
     either_adopt late d left = elim (late d left) [
@@ -137,7 +137,7 @@ module _ {S : Type 0} (g : Ghosts S) (law : (s : S) (db : Trees) → IsTrue (g.v
       | inr same ↦ inr (found_as d no_contents after (leaves d left) same)
     ]
 
--- ---- over what a crash left
+-- ---- after a crash
 
 module _ (trees : Trees) (before after : Contents) (either : HasEither trees before after) where
   pub either_taken : (store : job.State) → TakesAt trees store → OpensWithEither store before after
@@ -151,7 +151,7 @@ no_refusal fault.NotOurs ours whole is = ours refl
 no_refusal fault.Damaged ours whole is = whole refl
 no_refusal (fault.Store why) ours whole is = is
 
--- what `create` and `adopt` answer of it
+-- the results of `create` and `adopt` for such a database
 module _ {X Y : Type 0} (opened : State) where
   pub taken_over : (Clean : X → Type 0) (stands : X → job.State) (r : Result X (Y × OpenFault)) → IfOk r (λ x. Clean x → TakesAt opened.now.trees (stands x))
       → IfOk r (λ x. Clean x → (before after : Contents) → HasEither opened.now.trees before after → OpensWithEither (stands x) before after)

@@ -1,4 +1,4 @@
--- From what a call makes of a connection to what it makes of the contents, once for all calls.
+-- Lemmas for all calls: from the effect on a connection to the effect on the contents.
 use Rattle.std.proofs.Common.{◌≡◌, ◌⊎◌, ◌∙◌, ℕ, length, Option, None, Some, Result, Ok, Err, OnOk, OnErr, IfOk, inl, inr, sym, ap, subst, arith}
 use Rattle.sqlite.specs.Effect.{Database, IsDatabase}
 use Rattle.sqlite.specs.Schema.{Schema}
@@ -35,7 +35,7 @@ stays old new a b m n survives kept = record {
 }
 
 module _ {T : Type 0} where
-  -- what went well is passed on as it is
+  -- a success is returned unchanged
   pub translated_well : (P : T → Type 0) (r : Result T Error) (translated : Result T StoreFault) → IsTranslated r translated → IfOk r P → IfOk translated P
   translated_well P (Ok x) translated is well = subst (λ t. IfOk t P) (sym is) well
   translated_well P (Err e) (Ok x) is well = absurd (cc)
@@ -49,27 +49,27 @@ module _ {T : Type 0} where
 
 -- ---- commits
 
--- trees list one schema, so two databases at the same trees are one
+-- trees list one schema, so two databases with the same trees are equal
 one_database : (a b : Database) → IsDatabase a → IsDatabase b → a.trees ≡ b.trees → a ≡ b
 one_database a b sound other same =
     let schema = lists_once (b.trees catalog_tree) a.schema b.schema (subst (λ (t : Trees). Lists (t catalog_tree) a.schema) same sound.lists) other.lists in
     λ i. record { schema = schema i; trees = same i }
 
--- what stands at the trees of a database stands in it
+-- the contents at the trees of a database are its contents
 pub has_there : (db : Database) (trees : Trees) (c : Contents) → IsDatabase db → trees ≡ db.trees → HasAt trees c → Has db c
 has_there db trees c sound is at = subst (λ (x : Database). Has x c) (one_database at.db db at.is_database sound (at.stands ∙ is)) at.has
 
--- an open over a database finds sound contents that it has, or it has none
+-- An open of the database finds sound contents that it has, or the database has no sound contents.
 abbrev pub Shows : Option Contents → Database → Type 0
 Shows None db = (c : Contents) → AreSound c → ¬ Has db c
 Shows (Some c) db = AreSound c × Has db c
 
--- what an open finds at the trees of a database
+-- the result of an open of the trees of a database
 pub shown_at : (d : Option Contents) (db : Database) (trees : Trees) → IsDatabase db → trees ≡ db.trees → Stands d trees → Shows d db
 shown_at None db trees sound is none = λ c fine has. none c fine (record { db = db; is_database = sound; stands = sym is; has = has })
 shown_at (Some d) db trees sound is at = (at.0, has_there db trees d sound is at.1)
 
--- an image has no other rows
+-- a database that contains an image has no other rows
 pub has_image : (t : Tables) (c : Contents) (db : Database) → IsImage t db → Has db c → HaveSameRows (image c) t
 has_image t c db now (inl held) = one_held held.0 Three (image c) t db held.1 (our_image_held t db now)
 has_image t c db now (inr none) = absurd (omega (arith, ap (λ (s : Schema). length s.tables) (sym now.ours ∙ none.0)))
@@ -77,11 +77,11 @@ has_image t c db now (inr none) = absurd (omega (arith, ap (λ (s : Schema). len
 pub image_had : (c : Contents) (db : Database) → IsImage (image c) db → Has db c
 image_had c db now = inl (Three, our_image_held (image c) db now)
 
--- the rows of two sound contents are not the same, unless they are
+-- Sound contents with the same rows are the same.
 abbrev pub RowsLaw : Type 0
 RowsLaw = (c d : Contents) → AreSound c → AreSound d → HaveSameRows (image c) (image d) → AreSame c d
 
--- at the trees of an image its contents are found
+-- an open of the trees of an image finds its contents
 pub found : RowsLaw → (c : Contents) → AreSound c → (db : Database) → IsImage (image c) db → (trees : Trees) → trees ≡ db.trees → (d : Option Contents) → Stands d trees → IsFound d c
 found law c sound db now trees is None at = absurd (shown_at None db trees now.is_database is at c sound (image_had c db now))
 found law c sound db now trees is (Some d) at = let shown = shown_at (Some d) db trees now.is_database is at in law d c shown.0 sound (has_image (image c) d db now shown.1)
@@ -115,7 +115,7 @@ module _ (law : RowsLaw) (Owed : Contents → Type 0) (after : Contents → Cont
     settled = tt;
   }
 
-  -- what went well is taken, and what is reported as a fault leaves all as it was
+  -- a success is a commit, and a fault leaves everything unchanged
   pub translated_commits : (r : Result (Unit {0}) Error) (translated : Result (Unit {0}) StoreFault) → IsTranslated r translated → (HasCleanDisk new → OnOk r (Ends (Takes Owed after) old new))
       → (HasCleanDisk new → OnErr r (IsKept old new)) → Commits (link old a b) (link new m n) translated Owed after
   translated_commits (Ok u) translated is ok err = subst (λ t. Commits (link old a b) (link new m n) t Owed after) (sym is) (commits ok)

@@ -1,4 +1,4 @@
--- From the rows that are written to the contents that are taken.
+-- Lemmas: from the rows that are written to the contents after a commit.
 use Rattle.std.proofs.Common.{ℕ, Result, Ok, Err, OnOk, IsTrue, subst, arith}
 use Rattle.std.proofs.lemmas.List.Sorted.{IsPermutation-cons}
 use Rattle.sqlite.specs.Effect.{Database}
@@ -20,7 +20,7 @@ use Rattle.sql_rows.specs.Image.{IsImage, Moves}
 use Rattle.sql_rows.proofs.SameRows.{same_rows}
 use Rattle.schema.specs.Takes.{Takes}
 
--- one more reply on both sides
+-- adds one reply to both tables
 same_with_reply : (entry : Entry) (t u : Tables) → HaveSameRows t u → HaveSameRows (with_reply entry t) (with_reply entry u)
 same_with_reply entry t u same = record {
   products = same.products;
@@ -36,7 +36,7 @@ same_with_reply entry t u same = record {
   marks = same.marks;
 }
 
--- what the laws say of the rows of the next contents
+-- the lemmas about the rows of the next contents
 abbrev pub ReplyLaw : Type 0
 ReplyLaw = (c : Contents) (entry : Entry) → HaveSameRows (image (committed c change.Nothing entry)) (with_reply entry (image c))
 
@@ -48,7 +48,7 @@ abbrev pub ReleaseLaw : Type 0
 ReleaseLaw = (c : Contents) (upto : ℕ) (entry : Entry) → AreSound c → IsOwedRelease upto entry c
     → HaveSameRows (image (released c upto entry)) (rows_written (writing.Releases entry.client upto) entry (image c))
 
--- what is written is that of the change
+-- `w` is the `Writing` for `change`, for any contents that the database has.
 abbrev pub IsWritingIn : Change → Writing → Entry → Database → Type 0
 IsWritingIn change w entry db = (c : Contents) → AreSound c → IsOwed change entry c → IsImage (image c) db → IsWritingOf c.facts change w
 
@@ -65,7 +65,7 @@ pub release_taken : ReleaseLaw → (upto : ℕ) (entry : Entry) (a b : Database)
 release_taken law upto entry a b moves c sound owed holds =
     same_rows (image (released c upto entry)) (rows_written (writing.Releases entry.client upto) entry (image c)) b (law c upto entry sound owed) (moves (image c) holds)
 
--- one relation in the place of another
+-- replaces one relation by another
 module _ (P Q : Database → Database → Type 0) (old new : State) (turns : (b : Database) → P old.now b → Q old.now b) where
   pub ends_as : {X : Type 0} (r : Result X Error) → OnOk r (Ends P old new) → OnOk r (Ends Q old new)
   ends_as (Err e) k = tt
@@ -74,7 +74,7 @@ module _ (P Q : Database → Database → Type 0) (old new : State) (turns : (b 
   pub left_as : Survives old new (IsLeft P old) → Survives old new (IsLeft Q old)
   left_as = survives_weaker old new (IsLeft P old) (IsLeft Q old) (λ clean trees it. (it.0, (it.1.0, turns it.1.0 it.1.1, it.1.2)))
 
--- a read, and then a commit
+-- a read, followed by a commit
 module _ (P Q : Database → Database → Type 0) (old mid new : State) (kept : HasCleanDisk mid → IsKept old mid) (before : Survives old mid (λ _. ⊥))
     (turns : HasCleanDisk mid → IsTrue mid.is_open → (b : Database) → P old.now b → Q old.now b) where
   takes : HasCleanDisk mid → (b : Database) → IsTrue mid.is_open → P mid.now b → Q old.now b
@@ -95,7 +95,7 @@ module _ (P Q : Database → Database → Type 0) (old mid new : State) (kept : 
       survives_then old mid new (λ _. ⊥) (IsLeft P mid) (IsLeft Q old) (λ _ db none. absurd none)
       (λ clean db it. let early : HasCleanDisk mid = omega (arith, last.clean) in ((kept early).was_open it.0, (it.1.0, takes early it.1.0 it.0 it.1.1, it.1.2))) before last
 
--- what a change needs is read, and then the change is committed
+-- a read of what a change needs, followed by the commit of the change
 module _ (reply : ReplyLaw) (law : ChangeLaw) (change : Change) (w : Writing) (entry : Entry) (old mid new : State) (kept : HasCleanDisk mid → IsKept old mid) (before : Survives old mid (λ _. ⊥))
     (has : HasCleanDisk mid → IsTrue mid.is_open → IsWritingIn change w entry old.now) where
   abbrev Written : Database → Database → Type 0

@@ -1,4 +1,4 @@
--- What the close of a connection over files leaves of its store.
+-- The result of closing the store over files.
 use Rattle.std.specs.Prelude.{◌≡◌}
 use Rattle.sqlite_disk.specs.declared.Disk.{Ghosts}
 use Rattle.sqlite_disk.specs.declared.Files.{Files}
@@ -18,8 +18,8 @@ use Rattle.schema.specs.Link.{link}
 use Rattle.adoption.specs.Faults.{fault_for}
 
 module _ {D : Type 0} {g : Ghosts D} where
-  -- Its two files were given back. Where their disks have returned what was written, the database
-  -- file alone has the last commit, and the last commit has the rows of the contents.
+  -- The connection was closed, and it returned its two files. If their devices are correct, the
+  -- database file alone has the last commit, and the last commit has the rows of the contents.
   pub record LeavesWholeFile (conn : Held (FileStore D g)) : Type 0 where
     pub last : FileStore D g
     pub files : Files D
@@ -28,7 +28,8 @@ module _ {D : Type 0} {g : Ghosts D} where
     pub copied : AreClean g files.log files.db → IsCopied conn files
     pub rows : AreClean g files.log files.db → (c : Contents) → (link (file_state conn) 0 0).holds c → IsImage (image c) (file_state conn).committed
 
-  -- It is not closed, and this fault says why. A crash leaves what it could leave before.
+  -- The connection couldn't be closed, and `fault` is the reason. A crash leaves what it could
+  -- leave before.
   pub record FailsToFinish (conn : Held (FileStore D g)) (fault : StoreFault) : Type 0 where
     pub last : FileStore D g
     pub error : Error

@@ -1,4 +1,4 @@
--- What is opened over trees that a crash left.
+-- Opening a database from the trees that a crash left.
 use Rattle.std.specs.Prelude.{Some}
 use Rattle.sqlite.specs.Tree.{Trees}
 use Rattle.job_facts.specs.Contents.{Contents}
@@ -8,17 +8,18 @@ use Rattle.adoption.specs.declared.faults.OpenFault.{OpenFault}
 use Rattle.adoption.specs.declared.faults.OpenFault.TheVariants as fault
 use Rattle.schema.specs.Link.{Stands}
 
--- 81 or 82
+-- The fault is refusal 81 or 82.
 abbrev pub IsRefusal : OpenFault → Type 0
 IsRefusal fault.NotOurs = Unit {0}
 IsRefusal fault.Damaged = Unit {0}
 IsRefusal (fault.Store why) = ⊥
 
--- the store is opened with contents that an open finds at these trees
+-- The store is opened with contents that an open finds at `trees`.
 abbrev pub TakesAt : Trees → State → Type 0
 TakesAt trees store = (c : Contents) × Stands (Some c) trees × OpensWith store c
 
--- An open of these trees finds one of these two contents, and is not refused. Where a crash may leave
--- just these two, it is so of each trees that it may leave, by the definition of `link`.
+-- An open of `trees` isn't refused, and finds the contents `before` or `after`. If these are the
+-- only contents that a crash may leave, then this is true of all trees that it may leave, by the
+-- definition of `link`.
 abbrev pub HasEither : Trees → Contents → Contents → Type 0
 HasEither trees before after = FindsEither (λ d. Stands d trees) before after

@@ -1,4 +1,4 @@
--- What a connection to our tables stands for.
+-- The contents that a connection to a database represents.
 use Rattle.std.specs.Prelude.{◌≡◌, ◌⊎◌, ℕ, IsTrue, Option, None, Some, Result, Ok, Err}
 use Rattle.sqlite.specs.Effect.{Database, IsDatabase}
 use Rattle.sqlite.specs.State as sqlite
@@ -15,24 +15,25 @@ use Rattle.sql_tables.specs.declared.versions.Version.{Version}
 use Rattle.table_reads.specs.Holding.{HoldsRows}
 use Rattle.adoption.specs.Faults.{fault_for}
 
--- the database has these contents: their rows stand in our tables, of some version and in any
--- order, or it is empty, and there are none
+-- The database has the contents `c`: it contains their rows in the tables of some schema version
+-- and in any order, or it is empty and `c` is `no_contents`.
 abbrev pub Has : Database → Contents → Type 0
 Has db c = ((v : Version) × HoldsRows v (image c) db) ⊎ ((db.schema ≡ no_schema) × (c ≡ no_contents))
 
--- a database with these contents stands at the trees, as their own catalog lists it
+-- A database with the contents `c` has exactly the trees `trees`, whose catalog lists its schema.
 pub record HasAt (trees : Trees) (c : Contents) : Type 0 where
   pub db : Database
   pub is_database : IsDatabase db
   pub stands : db.trees ≡ trees
   pub has : Has db c
 
--- what an open finds at these trees: sound contents, or none, and then it is refused
+-- An open of `trees` finds these sound contents, or is refused if the first argument is `None`.
 abbrev pub Stands : Option Contents → Trees → Type 0
 Stands None trees = (c : Contents) → AreSound c → ¬ HasAt trees c
 Stands (Some c) trees = AreSound c × HasAt trees c
 
--- One that a fault has shut stands for any sound contents. The two counts are the store's own.
+-- The state of a store whose connection is in the state `s`. If a fault has closed the connection,
+-- the store represents any sound contents. The two counts are the store's own.
 abbrev pub link : sqlite.State → ℕ → ℕ → State
 link s failed full = record {
   holds = λ c. AreSound c × (IsTrue s.is_open → IsImage (image c) s.now);
@@ -42,7 +43,7 @@ link s failed full = record {
   may_leave = λ d. (trees : Trees) × s.may_leave trees × Stands d trees;
 }
 
--- what went well is passed on as it is, and an error as its fault
+-- A success is returned unchanged, and an error is returned as its fault.
 abbrev pub IsTranslated : {T : Type 0} → Result T Error → Result T StoreFault → Type 0
 IsTranslated (Ok answer) translated = translated ≡ Ok answer
 IsTranslated (Err error) translated = translated ≡ Err (fault_for error)

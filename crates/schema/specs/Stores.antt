@@ -1,4 +1,4 @@
--- What a store over SQLite is made of, and what it stands for.
+-- The connection of a store over SQLite, and the state of this store.
 use Rattle.sqlite.specs.Held.{Held, state}
 use Rattle.sqlite.specs.Store.{Ghosts}
 use Rattle.job_facts.specs.Store.{State}

@@ -1,4 +1,6 @@
-//! The tables of a database are closed, and adopted again.
+//! Closes a store over SQLite, and opens its database again.
+//!
+//! If this fails, no clause says why, because the store no longer exists.
 use crate::store::SqlStore;
 use adoption::OpenFault;
 use job_facts::{Reopen, StoreFault};

@@ -1,4 +1,4 @@
-//! A server works over the tables of a database, and closes it at the end.
+//! The store of a server, which is closed when the server exits.
 ghost use Rattle.std.specs.Prelude.{◌≡◌, false, IfErr, OnOk};
 ghost use Rattle.schema.specs.Closing.{FailsToFinish, LeavesWholeFile};
 
@@ -9,7 +9,8 @@ use sql_base::laws;
 use sqlite::{Connection, FileStore, MemStore};
 use sqlite_disk::Disk;
 
-// Copies the write-ahead log into the database file, and closes both files.
+// Copies the WAL to the database file, and closes both files. If this fails, both files are closed
+// anyway.
 fn close_files<D: Disk + Drop>(conn: Connection<FileStore<D>>) -> Result<(), StoreFault>
     requires { conn.in_transaction ≡ false }
     ensures closed { OnOk result (LeavesWholeFile conn) }
@@ -48,7 +49,7 @@ impl<D: Disk + Drop> ServerStore for SqlStore<FileStore<D>> {
     }
 }
 
-// A database in memory has no file.
+// A database in memory has no file, so nothing needs to be closed.
 impl ServerStore for SqlStore<MemStore> {
     ghost use Rattle.std.specs.Prelude.{⊤};
 

@@ -1,4 +1,4 @@
-//! What a store says of an error, and how often it said so.
+//! Converts the errors of SQLite to faults of the store, and counts these faults.
 ghost use Rattle.std.specs.Prelude.{◌≡◌};
 ghost use Rattle.job_facts.specs.Store.{failed_after, full_after};
 ghost use Rattle.schema.specs.Link.{IsTranslated};
@@ -7,7 +7,7 @@ use adoption::fault_of;
 use job_facts::StoreFault;
 use sqlite::Error;
 
-/// How often a store answered that its device failed, and that it is full.
+/// The numbers of `Device` and `Full` faults that a store has returned.
 #[derive(Clone, Copy)]
 pub(crate) struct Counts {
     pub(crate) failed: u64,
@@ -15,7 +15,11 @@ pub(crate) struct Counts {
 }
 
 impl Counts {
-    /// The answer, or the fault of its error, which is counted.
+    /// Converts the result of a call to SQLite, and counts the fault if there is one.
+    ///
+    /// # Errors
+    ///
+    /// Returns the fault for the error in `answer`.
     pub(crate) fn translated<T>(&mut self, answer: Result<T, Error>) -> Result<T, StoreFault>
         ensures value { IsTranslated answer result }
         ensures failed { self.new.failed ≡ failed_after result self.old.failed }

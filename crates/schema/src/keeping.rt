@@ -1,4 +1,4 @@
-//! A change or a release is kept with its reply, as it is owed of the contents.
+//! Stores a change or a release together with its reply.
 ghost use Rattle.std.specs.Prelude.{◌≡◌, ◌<◌, ◌^◌, false, OnErr, OnOk};
 ghost use Rattle.sqlite.specs.Held.{state};
 ghost use Rattle.sqlite.specs.State.{HasCleanDisk, Survives};
@@ -19,7 +19,7 @@ use std::alloc::Global;
 use store_reads::{Known, writing_of};
 use table_rows::{Entry, Writing};
 
-// The counters that what was written leaves are known from then on.
+// Caches the counters that `writing` sets.
 fn note_counters(known: &mut Known, writing: &Writing<'_>)
     requires { IsWritable writing.now }
     ensures { (t : Tables) (entry : EntryValue)
@@ -31,8 +31,15 @@ fn note_counters(known: &mut Known, writing: &Writing<'_>)
     }
 }
 
-/// Makes a change and keeps its reply, or does neither. What is known is forgotten where the change
-/// may touch it, and the counters that it leaves are known from then on.
+/// Stores `change` and the reply in `entry` in one transaction. Cached entries that the change may
+/// affect are removed before the transaction. The counters that it sets are cached after the
+/// commit.
+///
+/// # Errors
+///
+/// Returns the error of SQLite if a read or the transaction fails. The contents are then unchanged.
+/// An open after a crash finds what it could find before the call, or the contents with the change
+/// and the reply.
 pub(crate) fn keep<S: Alter>(
     conn: &mut Connection<S>,
     known: &mut Known,
@@ -58,7 +65,7 @@ pub(crate) fn keep<S: Alter>(
 {
     image_laws::rows_after_change();
     image_laws::rows_with_reply();
-    // (The borrow checker has no rule for `?` on a value that holds references.)
+    // The borrow checker has no rule for `?` on a value that contains references.
     match writing_of(conn, known, change) {
         Ok(writing) => {
             known.forget_for(&writing);
@@ -70,8 +77,13 @@ pub(crate) fn keep<S: Alter>(
     }
 }
 
-/// Sets a client's release mark, drops its replies up to the mark, and keeps the release's reply,
-/// or does nothing.
+/// Stores the release mark `upto` of the client in `entry` and the reply to the release in one
+/// transaction, and deletes the client's kept replies up to the mark.
+///
+/// # Errors
+///
+/// Returns the error of SQLite if the transaction fails. The contents are then unchanged. An open
+/// after a crash finds what it could find before the call, or the contents after the release.
 pub(crate) fn release<S: Alter>(
     conn: &mut Connection<S>,
     known: &Known,

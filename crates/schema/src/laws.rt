@@ -1,4 +1,4 @@
-//! What holds of files that a crash left.
+//! Opening a store after a crash.
 ghost use Rattle.std.specs.Prelude.{◌≡◌, false, IfErr, IfOk, IsTrue};
 ghost use Rattle.sqlite.specs.Held.{state};
 ghost use Rattle.sqlite.specs.State.{HasCleanDisk};
@@ -14,10 +14,16 @@ use sql_base::{is_empty, laws};
 use sqlite::{Alter, Connection};
 use std::alloc::Global;
 
-/// Opens a store over files that a crash may have left, at whichever exit of a call. Where an open
-/// finds there the contents before the call or those after it, the store is open and has one of the
-/// two, and the next crash leaves that alone. It is never refused as not ours or damaged. Where
-/// there is another fault, an open still finds one of the two.
+/// Opens a store over the database `conn` after a crash at any exit of a call.
+///
+/// If an open finds either the contents before the call or the contents after it, the database is
+/// never refused, the opened store has one of the two contents, and the next crash leaves exactly
+/// these contents.
+///
+/// # Errors
+///
+/// Returns the connection with the fault. For a database as above, the fault isn't a refusal, and a
+/// later open still finds one of the two contents.
 pub fn open_what_is_left<S: Alter>(
     alloc: Global,
     conn: Connection<S>,

@@ -1,4 +1,5 @@
-//! The store over SQLite: its facts, kept replies and marks in the tables of one database.
+//! The store over SQLite. It keeps facts, kept replies and release marks in the tables of one
+//! database.
 #![tactic(auto, using(crate::proofs::Knowing::knows_still))]
 
 mod again;

@@ -1,4 +1,4 @@
-//! A store begins, and ends.
+//! Creates stores over SQLite, and opens existing ones.
 ghost use Rattle.std.specs.Prelude.{◌≡◌, ◌≢◌, ◌⊎◌, false, IfErr, IfOk, IsTrue, MatchResult, None};
 ghost use Rattle.sqlite.specs.Held.{state};
 ghost use Rattle.sqlite.specs.State.{HasCleanDisk, Survives};
@@ -29,8 +29,15 @@ use std::alloc::Global;
 use store_reads::Known;
 
 impl<S: Alter> SqlStore<S> {
-    /// A store without facts, in an empty database. Any other is refused and stays as it is, and
-    /// its connection is handed back. A crash leaves what it could leave before, or empty contents.
+    /// Creates a store without contents in an empty database. A crash leaves what it could leave
+    /// before, or a database that is opened with empty contents.
+    ///
+    /// # Errors
+    ///
+    /// Returns the connection with one of these faults. The database is unchanged.
+    ///
+    /// - `NotOurs`: the database isn't empty.
+    /// - `Store`: the device failed or is full, or an allocation fails.
     pub fn create(
         alloc: Global,
         mut conn: Connection<S>,
@@ -92,10 +99,22 @@ impl<S: Alter> SqlStore<S> {
         }
     }
 
-    /// A store over a database whose tables, of any version and in any order, hold the rows of
-    /// sound contents: it has these, in our own tables. Any other is refused and stays as it is,
-    /// and its connection is handed back. Where our own tables stand as they are made, every
-    /// tree stays. A crash leaves what it could leave before, or the same contents.
+    /// Opens the store in a database that contains the rows of sound contents, in the tables of any
+    /// schema version and in any order. The store has these contents, in the tables of the current
+    /// schema. If the tables are exactly those that the store creates, the database isn't modified.
+    /// A crash leaves what it could leave before, or a database with the same contents.
+    ///
+    /// # Errors
+    ///
+    /// Returns the connection with one of these faults. The database is unchanged.
+    ///
+    /// - `NotOurs`: the tables don't have the form of any schema version (refusal 81).
+    /// - `Damaged`: the rows don't represent sound contents (refusal 82).
+    /// - `Store`: the device failed or is full, or an allocation fails.
+    ///
+    /// No clause excludes that a full disk is reported as `Device` (docs/DECISIONS.md, "Full
+    /// disks"). Only tests show that a database with sound contents is opened, and that any other
+    /// database gets its refusal instead of `Store`.
     pub fn adopt(
         alloc: Global,
         mut conn: Connection<S>,

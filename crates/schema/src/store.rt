@@ -1,4 +1,4 @@
-//! A store over a connection to our tables.
+//! The store over a connection to SQLite.
 ghost use Rattle.std.specs.Prelude.{◌≡◌, false};
 ghost use Rattle.sqlite.specs.Held.{state};
 ghost use Rattle.store_reads.specs.Known.{Knows};
@@ -17,8 +17,10 @@ use store_reads as reads;
 use store_reads::Known;
 use table_rows::Entry;
 
-/// A store over a connection to our tables. No transaction is open between its calls. What no
-/// change touches of the records that it read of late is not read again.
+/// A store over a connection to a database with the tables of the current schema. No transaction is
+/// open between its calls. Its cache saves it from reading rows again that can't have changed. If a
+/// fault has closed the connection, the contracts treat any sound contents as the contents of the
+/// store.
 pub struct SqlStore<S: Alter> {
     pub(crate) alloc: Global,
     pub(crate) conn: Connection<S>,
@@ -34,7 +36,7 @@ impl<S: Alter> SqlStore<S> {
     ghost use Rattle.job_facts.specs.Reopening.{counts_of};
     ghost use Rattle.schema.specs.Stores.{connection, stands_for};
 
-    /// Ends a store, and gives its connection back.
+    /// Consumes the store, and returns its connection. Allocates nothing.
     pub fn close(self) -> Connection<S>
         ensures handed { result ≡ connection self }
         ensures idle { result.in_transaction ≡ false }
@@ -48,7 +50,7 @@ impl<S: Alter> SqlStore<S> {
         conn
     }
 
-    // How often it failed since it was opened.
+    // Returns the numbers of faults since the store was opened.
     pub(crate) fn fault_counts_of(&self) -> FaultCounts
         ensures { result ≡ counts_of (stands_for S.Store self.now) }
     {
@@ -58,7 +60,7 @@ impl<S: Alter> SqlStore<S> {
         }
     }
 
-    // How many replies it keeps.
+    // Returns the number of kept replies.
     pub(crate) fn count_replies(&mut self) -> Result<u64, StoreFault>
         ensures stays { Stays (stands_for S.Store self.old) (stands_for S.Store self.new) }
         ensures value { Reads (stands_for S.Store self.old) (stands_for S.Store self.new) result

@@ -1,4 +1,4 @@
--- What is kept of bytes that go on.
+-- Lemmas about the first bytes that are kept while a connection continues.
 use Rattle.std.proofs.Common.{◌≡◌, ℕ, zero, suc, ◌⊎◌, inl, inr, List, [], ◌∷◌, ◌++◌, take, drop, Option, Some, None, refl, ap, sym, subst, ◌∙◌, append_assoc}
 use Rattle.std.specs.Prelude.{IsTrue, is_some}
 use Rattle.std.specs.Io.KnownBytes.{Appends, Consumes, Keeps}
@@ -11,13 +11,13 @@ use Rattle.server.specs.declared.served.End.{End}
 use Rattle.server.specs.declared.served.End.TheVariants.{Answered, Broken, WriteFailed}
 use Rattle.server.specs.Bytes.{IsBeginning, IsReplyOf, KeepsRead, KeepsReply, KeepsWritten}
 
--- the front of a front with more behind it
+-- the first bytes of a prefix and the text after it are the first bytes of the whole text
 front_more : (most : ℕ) (xs ys : List ℕ) → take most (take most xs ++ ys) ≡ take most (xs ++ ys)
 front_more zero xs ys = refl
 front_more (suc most) [] ys = refl
 front_more (suc most) (x ∷ xs) ys = ap (λ l. x ∷ l) (front_more most xs ys)
 
--- more bytes were read
+-- more bytes are read
 pub read_more : (before now after : Option (List ℕ)) (first bytes new : List ℕ) → Consumes now after bytes → new ≡ take 256 (first ++ bytes)
     → KeepsRead before now first → KeepsRead before after new
 read_more before now after first bytes new read is (all, gone, front) = (
@@ -26,22 +26,22 @@ read_more before now after first bytes new read is (all, gone, front) = (
   is ∙ ap (λ l. take 256 (l ++ bytes)) front ∙ front_more 256 all bytes,
 )
 
--- what is offered behind what was taken
+-- the bytes that are passed to the writer after those that it took
 offers : (taken bytes buf new : List ℕ) → taken ≡ take 512 bytes → new ≡ take 512 (take 512 taken ++ buf) → new ≡ take 512 (bytes ++ buf)
 offers taken bytes buf new front is = is ∙ front_more 512 taken buf ∙ ap (λ l. take 512 (l ++ buf)) front ∙ front_more 512 bytes buf
 
--- what was taken and then offered, by the steps of the code
+-- the first bytes taken and then passed to the writer, as the code computes them
 pub offered-is : (none slice taken first buf new : List ℕ) → none ≡ [] → slice ≡ taken → first ≡ take 512 (none ++ slice) → new ≡ take 512 (first ++ buf)
     → new ≡ take 512 (take 512 taken ++ buf)
 offered-is none slice taken first buf new empty same front is = rw (is, front, empty, same) refl
 
--- the writer took none of it
+-- the writer takes none of the bytes
 pub offered_none : (before now after : Option (List ℕ)) (taken offered buf new : List ℕ) → Keeps now after → new ≡ take 512 (take 512 taken ++ buf)
     → KeepsWritten before now taken offered → KeepsWritten before after taken new
 offered_none before now after taken offered buf new same is (bytes, rest, all, front, last) =
     (bytes, buf, Appends-kept before now after bytes all same, front, offers taken bytes buf new front is)
 
--- the writer took the front of it
+-- the writer takes the first of the bytes
 pub offered_some : (before now after : Option (List ℕ)) (taken offered buf new more : List ℕ) (count : ℕ) → Appends now after (take count buf)
     → new ≡ take 512 (take 512 taken ++ buf) → more ≡ take 512 (taken ++ take count buf) → KeepsWritten before now taken offered → KeepsWritten before after more new
 offered_some before now after taken offered buf new more count grows is took (bytes, rest, all, front, last) =
@@ -69,7 +69,7 @@ front-begins_front zero xs ys = refl
 front-begins_front (suc most) [] ys = refl
 front-begins_front (suc most) (x ∷ xs) ys = ap (λ l. x ∷ l) (front-begins_front most xs ys)
 
--- the reply was taken whole
+-- the writer took the whole response
 pub reply_taken : (before after : Option (List ℕ)) (taken offered : List ℕ) (end : End) → (end ≡ Answered) ⊎ (end ≡ Broken)
     → KeepsWritten before after taken offered → KeepsReply end before after taken
 reply_taken before after taken offered end (inl is) (bytes, rest, all, front, last) = (bytes, all, subst (λ (e : End). IsReplyOf e taken bytes) (sym is) front)
@@ -81,7 +81,7 @@ pub reply_offered : (before after : Option (List ℕ)) (taken offered : List ℕ
 reply_offered before after taken offered end is (bytes, rest, all, front, last) =
     (bytes, all, subst (λ (e : End). IsReplyOf e offered bytes) (sym is) (subst (IsBeginning (take 512 bytes)) (sym last) (front-begins_front 512 bytes rest)))
 
--- what was read of an input
+-- the bytes kept of an input are its first bytes
 pub read-begins : (before after : Option (List ℕ)) (request input : List ℕ) → Agrees before input → KeepsRead before after request
     → IsTrue (is_some before) → IsBeginning request input
 read-begins None after request input all kept known = absurd (false≢true known)
@@ -89,7 +89,7 @@ read-begins (Some xs) None request input all (bytes, gone, front) known = absurd
 read-begins (Some xs) (Some ys) request input all (bytes, gone, front) known =
     subst (λ (l : List ℕ). IsBeginning l input) (sym front) (subst (IsBeginning (take 256 bytes)) (sym gone ∙ all) (front-begins 256 bytes ys))
 
--- what was written of a reply
+-- the bytes kept of a response are its first bytes
 pub reply-is : (before after : Option (List ℕ)) (end : End) (reply written : List ℕ) → Appends before after written → KeepsReply end before after reply
     → IsTrue (is_some before) → IsReplyOf end reply written
 reply-is None after end reply written all kept known = absurd (false≢true known)
@@ -98,7 +98,7 @@ reply-is (Some xs) (Some ys) end reply written all (bytes, grown, is) known =
     let same : bytes ≡ written = append_cancel_left xs bytes written (sym grown ∙ all) in
     subst (λ (l : List ℕ). IsReplyOf end reply l) same is
 
--- each of these holds in one way
+-- each of these predicates has at most one proof
 pub IsBeginning-prop : (first text : List ℕ) → IsProp (IsBeginning first text)
 IsBeginning-prop first text = hlevel props
 

@@ -1,4 +1,4 @@
--- What is observed of an exchange.
+-- Lemmas about the observation of an exchange.
 use Rattle.std.proofs.Common.{◌≡◌, ℕ, List, Option, subst, sym}
 use Rattle.std.specs.Prelude.{is_some}
 use Rattle.std.specs.Io.KnownBytes.{Appends}

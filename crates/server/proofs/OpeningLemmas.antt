@@ -1,4 +1,4 @@
--- A server whose event lines are off.
+-- Lemmas about a server whose event lines are off.
 use Rattle.std.proofs.Common.{◌≡◌, ◌≢◌, ◌↔◌, ℕ, Bool, false, List, Option, refl, sym, subst, ◌∙◌}
 use Rattle.std.specs.Prelude.{IsTrue, None}
 use Rattle.std.proofs.KnownBytes.{Keeps-refl}
@@ -19,7 +19,7 @@ off All on is not_on = absurd (false≢true (sym not_on ∙ is.1 (λ e. cc)))
 abbrev pub nothing_held : Holdings
 nothing_held = record { batches = None; sessions = None; replies = None }
 
--- nothing is read, and nothing is written
+-- if event lines are off, nothing is read and nothing is written
 pub off-opens : (level : Level) (on : Bool) (old : State) (opened : Opened) (known : Option (List ℕ)) → (IsTrue on ↔ (level ≢ Off)) → on ≡ false
     → (h : Holdings) × AreHoldings old old h × NotesAll level known known (opening_lines level opened h)
 off-opens level on old opened known is not_on = (

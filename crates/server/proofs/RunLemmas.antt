@@ -1,4 +1,4 @@
--- A run of connections that goes on.
+-- Lemmas about a run of connections that continues.
 use Rattle.std.proofs.Common.{◌≡◌, ◌≤◌, ℕ, length, arith, Result, Bool, false, List, [], ◌∷◌, ◌++◌, Option, Some, None, refl, ap, sym, subst, ◌∙◌, append-nil, append_assoc}
 use Rattle.std.specs.Prelude.{IsTrue, is_some, option_map}
 use Rattle.std.specs.Io.KnownBytes.{Appends}
@@ -25,7 +25,7 @@ use Rattle.server.specs.declared.stopping.ServeStop.{ServeStop}
 use Rattle.server.specs.declared.opening.Holdings.{Holdings}
 use Rattle.server.specs.declared.opening.Opened.{Opened}
 
--- whether the store fails after these
+-- the store is failing after these connections
 abbrev pub fails_through : Bool → List Observation → Bool
 fails_through is_failing [] = is_failing
 fails_through is_failing (o ∷ os) = fails_through (fails_after is_failing o) os
@@ -34,12 +34,12 @@ fails-push : (is_failing : Bool) (os : List Observation) (o : Observation) → f
 fails-push is_failing [] o = refl
 fails-push is_failing (p ∷ os) o = fails-push (fails_after is_failing p) os o
 
--- by whether it failed before the last
+-- the store is failing after one more connection, from whether it was failing before it
 pub fails-next : (was now : Bool) (os : List Observation) (o : Observation) → was ≡ fails_through false os → now ≡ fails_after was o
     → now ≡ fails_through false (os ++ o ∷ [])
 fails-next was now os o before after = after ∙ ap (λ (b : Bool). fails_after b o) before ∙ sym (fails-push false os o)
 
--- the lines of one connection more
+-- the event lines after one more connection
 lines-push : (level : Level) (is_failing : Bool) (os : List Observation) (o : Observation)
     → connection_lines level is_failing (os ++ o ∷ []) ≡ connection_lines level is_failing os ++ lines_at level (fails_through is_failing os) o
 lines-push level is_failing [] o = simp append-nil
@@ -59,18 +59,18 @@ observations-push known [] (p ∷ os) e o all one = absurd all
 observations-push known (d ∷ es) [] e o all one = absurd all
 observations-push known (d ∷ es) (p ∷ os) e o (first, all) one = (first, observations-push known es os e o all one)
 
--- what a connection brings is known where the queue is
+-- if the queue is known, the input and the written bytes of the connection in progress are known
 opened-known : (queue : Option Queue) (brings contents : Option (List ℕ)) → Opens queue brings contents → IsTrue (is_some queue)
     → IsTrue (is_some brings) × IsTrue (is_some contents)
 opened-known None brings contents opens known = absurd (false≢true known)
 opened-known (Some q) brings contents (bytes, rest, coming, is, empty) known = (ap is_some is, ap is_some empty)
 
--- the queue stays known
+-- a known queue stays known
 moved-known : (before now : Option Queue) (es : List Exchange) → Moves before now es → IsTrue (is_some before) → IsTrue (is_some now)
 moved-known None now es moves known = absurd (false≢true known)
 moved-known (Some q) now es (rest, came, is) known = ap is_some is
 
--- an observation of a connection that was handed out
+-- an observation of the connection in progress
 observation-known : (before now : Option Queue) (brings contents : Option (List ℕ)) (es : List Exchange) (e : Exchange) (o : Observation) → Moves before now es
     → Opens now brings contents → IsObservationOf (is_some brings) (is_some contents) e o → IsObservationOf (is_some before) (is_some before) e o
 observation-known before now brings contents es e o moves opens one = record {
@@ -79,7 +79,7 @@ observation-known before now brings contents es e o moves opens one = record {
   reply = λ known. one.reply (opened-known now brings contents opens (moved-known before now es moves known)).1;
 }
 
--- no connection yet
+-- no connection was served yet
 pub observes-none : {S : Type 0} (state : S → State) (store : S) (queue : Option Queue) (level : Level) (known : Option (List ℕ))
     → ObservesAll state store store queue queue level known known [] []
 observes-none state store queue level known = record {
@@ -90,7 +90,7 @@ observes-none state store queue level known = record {
   noted = Keeps-refl known;
 }
 
--- one connection more: handed out, served and observed, taken back, and its lines written
+-- one more connection was started, served and observed, and taken back, and its lines were written
 pub observes-push : {S : Type 0} (state : S → State) → AreLeftInTurn state → (old now new : S) (waiting ready out left : Option Queue) (level : Level)
     (before mid after brings contents written : Option (List ℕ)) (es : List Exchange) (os : List Observation) (e : Exchange) (o : Observation)
     → ObservesAll state old now waiting ready level before mid es os
@@ -120,7 +120,7 @@ serves-begun state turns old begun stays =
       next = λ h c held i e is. absurd (none-some e is);
     }
 
--- what was read at the start holds, if the store is honest at the end
+-- the sizes read at the start are right if the device is correct until the end
 holdings-later : (old begun new : State) (h : Holdings) → begun.doubts ≤ new.doubts → AreHoldings old begun h → AreHoldings old new h
 holdings-later old begun new h doubts held = record {
   batches = λ honest. held.batches (omega arith);
@@ -128,7 +128,7 @@ holdings-later old begun new h doubts held = record {
   replies = λ honest. held.replies (omega arith);
 }
 
--- the file, the connections, and the close
+-- the event lines of the database file, the connections, and the close
 pub notes-run : {S : Type 0} (state : S → State) → AreLeftInTurn state → (old begun new : S) (closed : Type 0) (waiting left : Option Queue) (opened : Opened)
     (es : List Exchange) (os : List Observation) (count : ℕ) (closing : Result (Unit {0}) StoreFault) (result : Result (Unit {0}) ServeStop)
     (level level1 level2 : Level) (before first second after : Option (List ℕ)) (h : Holdings) → AreHoldings (state old) (state begun) h

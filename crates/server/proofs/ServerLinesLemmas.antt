@@ -1,4 +1,4 @@
--- What a server writes, by where its run stops.
+-- Lemmas about the lines of a server, by the reason why it stops.
 use Rattle.std.proofs.Common.{◌≡◌, ◌<◌, ℕ, List, Option, inl, inr, subst, sym}
 use Rattle.std.specs.Prelude.{Result, Ok, Err, IfErr, OnErr, OnOk}
 use Rattle.std.specs.Io.KnownBytes.{Appends}
@@ -11,7 +11,7 @@ use Rattle.server.specs.declared.stopping.ServeStop.TheVariants.{Next, Write, Me
 use Rattle.server.specs.ObservedRuns.{IsStopOf}
 use Rattle.server.specs.ServerLines.{WritesFirst, WritesLast, WritesLines, listening_text, of_next}
 
--- the first line is written, and connections are served
+-- the first line was written, and connections were served
 pub first-served : (P : NextFault → Type 0) (port turns count : ℕ) (before after : Option (List ℕ)) (outcome : Result (Unit {0}) ServeStop)
     → Appends before after (listening_text port) → OnOk outcome (count ≡ turns) → OnErr outcome (count < turns)
     → IfErr outcome (λ stop. (fault : NextFault) × (stop ≡ of_next fault) × P fault) → WritesFirst P port turns count before after outcome
@@ -21,7 +21,7 @@ first-served P port turns count before after (Err stop) written all fewer (next.
 first-served P port turns count before after (Err stop) written all fewer (next.Memory, is, why) =
     subst (λ (s : ServeStop). WritesFirst P port turns count before after (Err s)) (sym is) (inr (written, inl (fewer, why)))
 
--- it stopped before
+-- the server stopped before the last line
 before-last : (closed : Type 0) (P : NextFault → Type 0) (port turns count : ℕ) (before after : Option (List ℕ)) (stop : ServeStop) → WritesFirst P port turns count before after (Err stop)
     → WritesLines closed P port turns count before after (Err stop)
 before-last closed P port turns count before after Next first = first
@@ -29,7 +29,7 @@ before-last closed P port turns count before after Write first = inl first
 before-last closed P port turns count before after Memory first = first
 before-last closed P port turns count before after (Store fault) first = absurd first
 
--- all that is written
+-- both lines of a run
 pub both-lines : (closed : Type 0) (P : NextFault → Type 0) (port turns count : ℕ) (before mid after : Option (List ℕ)) (outcome result : Result (Unit {0}) ServeStop)
     → WritesFirst P port turns count before mid outcome → WritesLast closed turns outcome mid after result → WritesLines closed P port turns count before after result
 both-lines closed P port turns count before mid after (Err stop) result first (stops, same) =
@@ -45,7 +45,7 @@ both-lines closed P port turns count before mid after (Ok u) (Err Next) first la
 no-store : (P : NextFault → Type 0) (port turns count : ℕ) (before mid : Option (List ℕ)) (stop : ServeStop) (fault : StoreFault) → WritesFirst P port turns count before mid (Err stop) → stop ≡ Store fault → ⊥
 no-store P port turns count before mid stop fault first is = subst (λ (s : ServeStop). WritesFirst P port turns count before mid (Err s)) is first
 
--- a store that can't be closed is the close's fault
+-- if the server stopped because the store couldn't be closed, it reports the fault of the close
 pub store-stops : (closed : Type 0) (P : NextFault → Type 0) (port turns count : ℕ) (before mid after : Option (List ℕ)) (outcome : Result (Unit {0}) ServeStop)
     (closing : Result (Unit {0}) StoreFault) (result : Result (Unit {0}) ServeStop) → WritesFirst P port turns count before mid outcome
     → WritesLast closed turns outcome mid after result → OnOk outcome (IsStopOf result closing) → (fault : StoreFault) → result ≡ Err (Store fault) → closing ≡ Err fault

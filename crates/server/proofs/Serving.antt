@@ -1,4 +1,4 @@
--- One more connection.
+-- Lemmas about one more connection.
 use Rattle.std.proofs.Common.{◌≡◌, ℕ, ◌≤◌, Bool, List, [], ◌∷◌, ◌++◌, map, Option, Some, None, refl, sym, ap, ◌∙◌, subst, arith, append_assoc, append-nil}
 use Rattle.std.specs.Prelude.{drop, option_map, slice_get, unwrap_or}
 use Rattle.std.specs.Io.KnownBytes.{Appends}
@@ -30,7 +30,7 @@ tries-append (e ∷ es) fs = ap (λ (l : List Tried). tries_of e ++ l) (tries-ap
 tries_push : (es : List Exchange) (e : Exchange) → tries (es ++ e ∷ []) ≡ tries es ++ tries_of e
 tries_push es e = tries-append es (e ∷ []) ∙ ap (λ (l : List Tried). tries es ++ l) (append-nil (tries_of e))
 
--- what one connection leaves
+-- the contents after one more connection
 leaves_at : {S : Type 0} (state : S → State) → AreLeftInTurn state → (m : Meant) (s0 s1 s2 : S) (ts : List Tried) (b : Bool)
     → Leaves (state s0) (state s1) ts → Does m (state s1) (state s2) b → Leaves (state s0) (state s2) (ts ++ tries_at m b)
 leaves_at state turns Broken s0 s1 s2 ts b leaves does = subst (Leaves (state s0) (state s2)) (sym (append-nil ts)) (turns.stays s0 s1 s2 ts leaves does.0)
@@ -74,13 +74,13 @@ serves_more state turns s0 s1 s2 es e all one =
           each_more (NextAt c) es e (all.next early c held) (one.next (contents_after c (decided (tries es))) (all.leaves.contents early c held));
     }
 
--- ---- those that were taken back
+-- ---- connections that were taken back
 
 pub moves_none : (queue : Option Queue) → Moves queue queue []
 moves_none None = tt
 moves_none (Some q) = (q.coming, refl, ap (λ (done : List Entry). Some (record { done = done; coming = q.coming })) (sym (append-nil q.done)))
 
--- the first that came was served
+-- the first connection of the queue was served
 served_first : (q : Queue) (es : List Exchange) (e : Exchange) (rest : List (List ℕ)) (brings before after : Option (List ℕ)) (served : Served)
     → q.coming ≡ map brought es ++ rest
     → Opens (Some (record { done = q.done ++ map shown es; coming = rest })) brings before → Agrees brings e.input → Appends before after e.written → e.served ≡ served

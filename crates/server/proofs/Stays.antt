@@ -1,4 +1,4 @@
--- A connection that changes nothing.
+-- Lemmas about a connection that changes nothing.
 use Rattle.std.proofs.Common.{◌≡◌, ℕ, Bool, false, List, Err, refl, sym, subst, ◌∙◌, inl, inr, ⊎_elim, arith}
 use Rattle.std.proofs.lemmas.Bool.{false≢true}
 use Rattle.job_facts.specs.declared.store.StoreFault.{StoreFault}
@@ -21,7 +21,7 @@ use Rattle.server.specs.Serving.{MayServe}
 pub stays_same : (s : State) → Stays s s
 stays_same s = record { doubts = omega arith; contents = λ h c held. held; crash = λ h d left. left }
 
--- an arrival that the store failed
+-- an arrival for which the store returned a fault
 handles_stays : (old new : State) (a : Arrived) (fault : StoreFault) → Stays old new → Handles old new a (Err fault)
 handles_stays old new a fault stays = record {
   doubts = stays.doubts;
@@ -52,7 +52,7 @@ unavailable m s served written undecided is = record {
   next = λ c held. hands_out_none c m served.decided undecided;
 }
 
--- behind a head the store may be unavailable
+-- after a valid head, the store may be unavailable
 pub serves_behind : (old new : State) (e : Exchange) → HasHead e.input → Means e.input e.meant → MayServe e.meant old new e.served e.written → Serves old new e
 serves_behind old new e head means may = record {
   means = means;

@@ -1,4 +1,4 @@
--- The text of an answer.
+-- Defines the text of a response.
 use Rattle.std.specs.Prelude.{ℕ, List}
 use Rattle.http_messages.specs.Texts.{reply_text}
 use Rattle.server.specs.declared.account.Answer.{Answer}

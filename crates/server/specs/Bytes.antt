@@ -1,31 +1,32 @@
--- What is kept of the bytes that a connection brings, and of those that its writer takes.
+-- Defines the first bytes that are kept of a connection's input and response.
 use Rattle.std.specs.Prelude.{◌≡◌, ℕ, List, ◌++◌, length, take, Option}
 use Rattle.std.specs.Io.KnownBytes.{Appends, Consumes}
 use Rattle.server.specs.declared.served.End.{End}
 use Rattle.server.specs.declared.served.End.TheVariants.{Answered, Broken, WriteFailed}
 
--- a text begins with these bytes
+-- `text` begins with `first`
 abbrev pub IsBeginning : List ℕ → List ℕ → Type 0
 IsBeginning first text = first ≡ take (length first) text
 
--- the first bytes of what was written; where the writer failed, what it did not take may follow
+-- `reply` is the first bytes of what was written; if the writer failed, bytes that it didn't take
+-- may follow
 abbrev pub IsReplyOf : End → List ℕ → List ℕ → Type 0
 IsReplyOf Answered reply written = reply ≡ take 512 written
 IsReplyOf Broken reply written = reply ≡ take 512 written
 IsReplyOf WriteFailed reply written = IsBeginning (take 512 written) reply
 
--- ---- on the way
+-- ---- helper definitions
 
--- the first of the bytes that were read
+-- `first` is the first bytes that were read
 abbrev pub KeepsRead : Option (List ℕ) → Option (List ℕ) → List ℕ → Type 0
 KeepsRead before after first = (bytes : List ℕ) × Consumes before after bytes × (first ≡ take 256 bytes)
 
--- the first of the bytes that were taken, and the first of these and of those that were offered
--- last
+-- `taken` is the first bytes that the writer took, and `offered` the first of these and of the
+-- bytes passed to it last
 abbrev pub KeepsWritten : Option (List ℕ) → Option (List ℕ) → List ℕ → List ℕ → Type 0
 KeepsWritten before after taken offered =
     (bytes : List ℕ) × (rest : List ℕ) × Appends before after bytes × (taken ≡ take 512 bytes) × (offered ≡ take 512 (bytes ++ rest))
 
--- what these are at the end of a connection
+-- `reply` is the first bytes of the response at the end of a connection
 abbrev pub KeepsReply : End → Option (List ℕ) → Option (List ℕ) → List ℕ → Type 0
 KeepsReply end before after reply = (bytes : List ℕ) × Appends before after bytes × IsReplyOf end reply bytes

@@ -1,4 +1,4 @@
--- The event lines of connections (this project's profile).
+-- Defines the event lines of connections (this project's profile).
 use Rattle.std.specs.Prelude.{ℕ, ◌&&◌, ◌||◌, Bool, true, false, not, List, [], ◌∷◌, ◌++◌, bytes_eq, codes, length, if◌then◌else◌, Option, Some, None}
 use Rattle.job_facts.specs.declared.store.StoreFault.{StoreFault}
 use Rattle.job_facts.specs.declared.store.StoreFault.TheVariants as fault
@@ -13,7 +13,7 @@ use Rattle.server.specs.RequestLines.{request_line}
 use Rattle.server.specs.Observations.{fault_between}
 use Rattle.server.specs.declared.observation.Observation.{Observation}
 
--- ---- what a connection came to
+-- ---- the outcome of a connection
 
 abbrev pub has_status : List ℕ → Observation → Bool
 has_status digits o = bytes_eq (status_digits o.reply) digits
@@ -23,11 +23,11 @@ is_answered Answered = true
 is_answered Broken = false
 is_answered WriteFailed = false
 
--- its reply has status 200, and was written whole
+-- the response has status 200 and was written completely
 abbrev pub is_accepted : Observation → Bool
 is_accepted o = is_answered o.served.end && has_status (codes "200") o
 
--- the store failed, or memory was refused
+-- the response has status 503, because the store or an allocation failed
 abbrev pub is_unavailable : Observation → Bool
 is_unavailable o = has_status (codes "503") o
 
@@ -42,7 +42,7 @@ fault_word fault.Full = codes "full"
 fault_word fault.Device = codes "device"
 fault_word fault.Memory = codes "memory"
 
--- where a status is there
+-- the status, if there is one
 abbrev pub status_pair : List ℕ → List ℕ
 status_pair digits = if bytes_eq digits [] then [] else pair (codes "status") digits
 
@@ -50,14 +50,14 @@ abbrev pub words_pairs : Option RefusalWords → List ℕ
 words_pairs None = []
 words_pairs (Some (code, name)) = pair (codes "code") code ++ pair (codes "name") name
 
--- of a refusal; nothing is shown of a body of status 200
+-- the code and name of a refusal; nothing is shown of a body with status 200
 abbrev pub refusal_pairs : Observation → List ℕ
 refusal_pairs o = if has_status (codes "200") o then [] else words_pairs (refusal_in (body_behind o.reply))
 
 abbrev pub fault_pair : Observation → List ℕ
 fault_pair o = if is_unavailable o then pair (codes "fault") (fault_word (fault_between o.before o.after)) else []
 
--- by its end, without its request
+-- the line of a connection that ended this way, without its request
 abbrev pub outcome_text : End → Observation → List ℕ
 outcome_text Answered o = codes "answered" ++ status_pair (status_digits o.reply) ++ refusal_pairs o ++ fault_pair o
 outcome_text Broken o = codes "broken"
@@ -68,22 +68,22 @@ abbrev pub line_pair : Option (List ℕ) → ℕ → List ℕ
 line_pair (Some line) count = quoted_pair (codes "request") line
 line_pair None count = number_pair (codes "bytes") count
 
--- the request line at the front of `bytes`, or otherwise their number
+-- the request line at the start of `bytes`, or otherwise their number
 abbrev pub request_pair : List ℕ → List ℕ
 request_pair bytes = line_pair (request_line bytes) (length bytes)
 
 abbrev pub connection_line : Observation → List ℕ
 connection_line o = outcome_text o.served.end o ++ request_pair o.request
 
--- ---- the lines of connections, one after the other
+-- ---- the lines of a list of connections
 
--- after a 503, before the first connection that the store served again
+-- the line before the first connection that the store served again after a 503
 abbrev pub recovery_lines : Level → Bool → Observation → List (List ℕ)
 recovery_lines Off is_failing o = []
 recovery_lines Usual is_failing o = if is_failing && was_served o then codes "recovered" ∷ [] else []
 recovery_lines All is_failing o = if is_failing && was_served o then codes "recovered" ∷ [] else []
 
--- the connection's own
+-- the connection's own line, if the level includes it
 abbrev pub own_lines : Level → Observation → List (List ℕ)
 own_lines Off o = []
 own_lines Usual o = if is_accepted o then [] else connection_line o ∷ []
@@ -92,7 +92,7 @@ own_lines All o = connection_line o ∷ []
 abbrev pub lines_at : Level → Bool → Observation → List (List ℕ)
 lines_at level is_failing o = recovery_lines level is_failing o ++ own_lines level o
 
--- whether the store fails, since it answered 503 and served none after that
+-- the store is failing: it returned 503 and has served no connection since then
 abbrev pub fails_after : Bool → Observation → Bool
 fails_after is_failing o = is_unavailable o || (is_failing && not (was_served o))
 

@@ -1,4 +1,4 @@
--- What is observed of a connection that was served (this project's profile).
+-- Defines the observation of a served connection (this project's profile).
 use Rattle.std.specs.Prelude.{◌≡◌, nat_lt, Bool, IsTrue, if◌then◌else◌}
 use Rattle.job_facts.specs.declared.store.StoreFault.{StoreFault}
 use Rattle.job_facts.specs.declared.store.StoreFault.TheVariants as fault
@@ -7,12 +7,12 @@ use Rattle.server.specs.Exchanges.{Exchange}
 use Rattle.server.specs.Bytes.{IsBeginning, IsReplyOf}
 use Rattle.server.specs.declared.observation.Observation.{Observation}
 
--- which fault it was of the store, by how often each was answered before and after
+-- the fault of the store, from its fault counters before and after
 abbrev pub fault_between : FaultCounts → FaultCounts → StoreFault
 fault_between before after = if nat_lt before.full after.full then fault.Full else (if nat_lt before.failed after.failed then fault.Device else fault.Memory)
 
--- what is observed of an exchange: of its bytes, where it is known what was brought and what was
--- written
+-- `o` is the observation of the exchange `e`; its bytes are described only if the input and the
+-- written bytes are known
 pub record IsObservationOf (brought written : Bool) (e : Exchange) (o : Observation) : Type 0 where
   pub served : o.served ≡ e.served
   pub request : IsTrue brought → IsBeginning o.request e.input

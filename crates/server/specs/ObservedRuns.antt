@@ -1,4 +1,4 @@
--- What is observed of a server's connections, and the event lines of a whole run.
+-- Defines the observations of a server's connections, and the event lines of a whole run.
 use Rattle.std.specs.Prelude.{◌≡◌, ℕ, Bool, false, List, [], ◌∷◌, ◌++◌, length, Option, is_some, OnOk, Result, Err, ⊤}
 use Rattle.job_facts.specs.declared.store.StoreFault.{StoreFault}
 use Rattle.job_facts.specs.Store.{State}
@@ -16,19 +16,21 @@ use Rattle.server.specs.declared.stopping.ServeStop.TheVariants.{Store}
 use Rattle.server.specs.declared.opening.Holdings.{Holdings}
 use Rattle.server.specs.declared.opening.Opened.{Opened}
 
--- one of each exchange, in order: of its bytes, where these are known
+-- there is one observation of each exchange, in order; its bytes are described only if they are
+-- known
 abbrev pub AreObservations : Bool → List Exchange → List Observation → Type 0
 AreObservations known [] [] = ⊤
 AreObservations known [] (o ∷ os) = ⊥
 AreObservations known (e ∷ es) [] = ⊥
 AreObservations known (e ∷ es) (o ∷ os) = IsObservationOf known known e o × AreObservations known es os
 
--- each begins with the store's counts that the one before it left
+-- the counters before each connection are those after the one before it
 abbrev pub CountsGoOn : FaultCounts → FaultCounts → List Observation → Type 0
 CountsGoOn before after [] = before ≡ after
 CountsGoOn before after (o ∷ os) = (o.before ≡ before) × CountsGoOn o.after after os
 
--- connections were served and observed, one after the other, and their event lines written
+-- the connections `es` were served one at a time, observed as `os`, and their event lines were
+-- written
 pub record ObservesAll {S : Type 0} (state : S → State) (old new : S) (waiting left : Option Queue) (level : Level) (before after : Option (List ℕ))
     (es : List Exchange) (os : List Observation) : Type 0 where
   pub moves : Moves waiting left es
@@ -37,16 +39,16 @@ pub record ObservesAll {S : Type 0} (state : S → State) (old new : S) (waiting
   pub counts : CountsGoOn (counts_of (state old)) (counts_of (state new)) os
   pub noted : NotesAll level before after (connection_lines level false os)
 
--- all of a run, in order: the file, each connection, and the close
+-- all event lines of a run, in order: the database file, the connections, and the close
 abbrev pub event_texts : Level → Opened → ℕ → Holdings → List Observation → Result (Unit {0}) StoreFault → List (List ℕ)
 event_texts level opened count h os closing = opening_lines level opened h ++ connection_lines level false os ++ closing_lines level count closing
 
--- a store that could not be closed is this fault of its close
+-- if the server stopped because the store couldn't be closed, it reports the fault of the close
 abbrev pub IsStopOf : Result (Unit {0}) ServeStop → Result (Unit {0}) StoreFault → Type 0
 IsStopOf result closing = (fault : StoreFault) → result ≡ Err (Store fault) → closing ≡ Err fault
 
--- these are written of a run that served these exchanges, and then closed its store, which is
--- closed where that ended well
+-- the event lines of a run that served the exchanges `es` and closed the store were written;
+-- `closed` holds if the close succeeded
 pub record NotesRun (closed : Type 0) (old new : State) (known : Bool) (opened : Opened) (es : List Exchange) (result : Result (Unit {0}) ServeStop)
     (level : Level) (before after : Option (List ℕ)) : Type 0 where
   pub holdings : Holdings

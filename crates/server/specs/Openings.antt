@@ -1,4 +1,4 @@
--- The event lines at a server's start and at its end (this project's profile).
+-- Defines the event lines at the start and the end of a server (this project's profile).
 use Rattle.std.specs.Prelude.{◌≡◌, ℕ, List, [], ◌∷◌, ◌++◌, length, codes, if◌then◌else◌, Option, Some, None, IfSome, OnOk, Result, Ok, Err}
 use Rattle.job_facts.specs.declared.store.StoreFault.{StoreFault}
 use Rattle.job_facts.specs.Contents.{Contents}
@@ -11,18 +11,18 @@ use Rattle.server.specs.ConnectionLines.{fault_word}
 use Rattle.server.specs.declared.opening.Holdings.{Holdings}
 use Rattle.server.specs.declared.opening.Opened.{Opened}
 
--- what could be read of how much a store holds
+-- `h` has the size of the store's contents, as far as it could be read
 pub record AreHoldings (old new : State) (h : Holdings) : Type 0 where
   pub batches : IsHonest new → (c : Contents) → old.holds c → IfSome h.batches (λ n. n ≡ length c.facts.batches)
   pub sessions : IsHonest new → (c : Contents) → old.holds c → IfSome h.sessions (λ n. n ≡ length c.facts.sessions)
   pub replies : IsHonest new → (c : Contents) → old.holds c → IfSome h.replies (λ n. n ≡ length c.kept)
 
--- where it could be read
+-- a number, if it could be read
 abbrev pub count_pair : List ℕ → Option ℕ → List ℕ
 count_pair key None = []
 count_pair key (Some n) = number_pair key n
 
--- a new file, or one that was there, with what it holds
+-- the line of a new database file, or of an existing one with the size of its contents
 abbrev pub opening_line : Opened → Holdings → List ℕ
 opening_line o h =
     if o.is_new then codes "made" ++ quoted_pair (codes "db") o.path.now
@@ -34,7 +34,7 @@ opening_lines Off o h = []
 opening_lines Usual o h = opening_line o h ∷ []
 opening_lines All o h = opening_line o h ∷ []
 
--- by how many connections were served, and how the close of the store ended
+-- the line after `count` connections and the close of the store
 abbrev pub closing_line : ℕ → Result (Unit {0}) StoreFault → List ℕ
 closing_line count (Ok u) = codes "closed" ++ number_pair (codes "connections") count
 closing_line count (Err fault) = codes "unclosed" ++ pair (codes "fault") (fault_word fault)
@@ -44,7 +44,7 @@ closing_lines Off count closing = []
 closing_lines Usual count closing = closing_line count closing ∷ []
 closing_lines All count closing = closing_line count closing ∷ []
 
--- the store is closed, and this is how that ended: its lines are written
+-- the store was closed with this result, and the lines of the close were written
 pub record NotesClose (closed : Type 0) (count : ℕ) (level : Level) (before after : Option (List ℕ)) (closing : Result (Unit {0}) StoreFault) : Type 0 where
   pub is_closed : OnOk closing closed
   pub noted : NotesAll level before after (closing_lines level count closing)

@@ -1,4 +1,4 @@
--- What connections are answered (this project's profile).
+-- Defines the responses to connections (this project's profile).
 use Rattle.std.specs.Prelude.{◌≡◌, ℕ, true, false, List, [], ◌++◌, Option, Some, None}
 use Rattle.job_facts.specs.declared.refusal.Refusal.{Refusal as Rule}
 use Rattle.job_facts.specs.declared.refusal.Refusal.TheVariants as rule
@@ -29,7 +29,7 @@ use Rattle.http_requests.specs.Meant.{Meant, Broken, Refused, Asks}
 abbrev pub http_reply_text : HttpReply → List ℕ
 http_reply_text t = reply_text t.status content.Json t.body
 
--- the account, if what it is of is there
+-- the account or report, if its batch or product exists
 abbrev pub account_of : Facts → Wanted → Option (List ℕ)
 account_of f (wanted.Batch b) = batch_account f b
 account_of f (wanted.Report b) = report_text f b
@@ -40,7 +40,7 @@ account_kind (wanted.Batch b) = content.Json
 account_kind (wanted.Report b) = content.Report
 account_kind (wanted.Blanks p) = content.Json
 
--- what is not there
+-- the refusal for a batch or product that doesn't exist
 abbrev pub unknown_of : Wanted → Rule
 unknown_of (wanted.Batch b) = rule.BatchUnknown
 unknown_of (wanted.Report b) = rule.BatchUnknown
@@ -53,26 +53,27 @@ account_reply w None = http_reply_text (http_reply_of (reply.Refused (unknown_of
 abbrev pub account_text : Facts → Wanted → List ℕ
 account_text f w = account_reply w (account_of f w)
 
--- ---- what is written
+-- ---- written bytes
 
--- all of the text, or a beginning where the writer failed
+-- the whole text was written, or a prefix if the writer failed
 abbrev pub IsWritten : End → List ℕ → List ℕ → Type 0
 IsWritten ended.Answered text written = written ≡ text
 IsWritten ended.WriteFailed text written = (rest : List ℕ) × (written ++ rest ≡ text)
 IsWritten ended.Broken text written = ⊥
 
--- an account decides nothing, and an arrival gets the reply that it gets on these contents
+-- an account decides nothing, and an arrival gets the reply for these contents
 abbrev pub IsAskedAnswer : Contents → Asked → Served → List ℕ → Type 0
 IsAskedAnswer c (asked.Account w) served written = (served.decided ≡ false) × IsWritten served.end (account_text c.facts w) written
 IsAskedAnswer c (asked.Arrival a) served written =
     (served.decided ≡ true) × IsWritten served.end (http_reply_text (http_reply_on c (arrived a))) written
 
--- the answer on these contents
+-- for the contents `c`, a message with this meaning has the outcome `served` and gets the bytes
+-- `written`
 abbrev pub IsAnswer : Contents → Meant → Served → List ℕ → Type 0
 IsAnswer c Broken served written = (served ≡ record { end = ended.Broken; decided = false }) × (written ≡ [])
 IsAnswer c (Refused why) served written = (served.decided ≡ false) × IsWritten served.end (refusal_text why) written
 IsAnswer c (Asks a) served written = IsAskedAnswer c a served written
 
--- the store failed, or memory was refused
+-- the response says that the store is unavailable, because the store or an allocation failed
 abbrev pub IsUnavailable : Served → List ℕ → Type 0
 IsUnavailable served written = (served.decided ≡ false) × IsWritten served.end (refusal_text Storage) written

@@ -1,4 +1,4 @@
--- The request line at the front of the bytes of a connection (RFC 9112, section 3).
+-- Defines the request line at the start of the bytes of a connection (RFC 9112, section 3).
 use Rattle.std.specs.Prelude.{ℕ, ◌==◌, ◌&&◌, ◌||◌, Bool, not, nat_eq, List, drop, length, slice_index, codes, if◌then◌else◌, Option, Some, None}
 use Rattle.std.specs.List.{after_first, before_first, list_all, list_any, starts_with}
 use Rattle.std.specs.Char.{is_ascii_alphanumeric, is_ascii_digit}

@@ -1,4 +1,4 @@
--- What a message does, once its head has passed its tests.
+-- Defines the effect and the response of a message whose head is valid.
 use Rattle.std.specs.Prelude.{◌⊎◌, ℕ, List}
 use Rattle.job_facts.specs.Contents.{Contents}
 use Rattle.job_facts.specs.Store.{State, IsHonest}

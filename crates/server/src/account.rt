@@ -1,4 +1,4 @@
-//! The account of a batch, or of a product's blanks.
+//! Makes the response to a request for an account or a report.
 ghost use Rattle.std.specs.Prelude.{◌≡◌, IfOk};
 ghost use Rattle.job_facts.specs.Store.{Reads, Stays};
 ghost use Rattle.reports.specs.Answers.{AnswersText};
@@ -16,7 +16,7 @@ use reports::{AccountFault, batch_counts, blank_counts, report_of};
 use std::alloc::{AllocError, Global};
 use store_data::Bytes;
 
-/// A reply, but for its bytes before the body.
+/// A response without its head.
 #[derive(Drop)]
 pub(crate) struct Answer {
     pub(crate) status: u16,
@@ -24,8 +24,12 @@ pub(crate) struct Answer {
     pub(crate) body: Bytes,
 }
 
-/// The answer to an account, or that what it is of is not there. Errors: the store's faults, and
-/// refused memory as `Memory`.
+/// Returns the response to a request for the account or report `wanted`. If the batch or product
+/// doesn't exist, the response is the refusal.
+///
+/// # Errors
+///
+/// Returns the faults of the store, and `Memory` if an allocation fails.
 pub(crate) fn account_answer<S: JobStore>(
     alloc: Global,
     store: &mut S,
@@ -44,7 +48,8 @@ pub(crate) fn account_answer<S: JobStore>(
         Err(fault) => match fault {
             AccountFault::Refused(refusal) => Ok(refused(alloc, refusal)?),
             AccountFault::Store(fault) => Err(fault),
-            // Of accounts that are made in memory there is none: their calls say so.
+            // The accounts are made in memory, so their calls never return `Write`, as their
+            // contracts state.
             AccountFault::Write => Err(StoreFault::Memory),
         },
     }

@@ -1,9 +1,9 @@
-//! The first bytes of a text, which lie in the value itself.
+//! The first bytes of a text, stored without an allocation.
 ghost use Rattle.std.specs.Prelude.{◌≡◌, ◌+◌, ◌≤◌, ◌++◌, [], length, take};
 
 use std::marker::Model;
 
-/// The first bytes of what was added, `N` at most, which a clause sees as their list.
+/// The first bytes of everything that was added, at most `N`. Its model is the list of these bytes.
 #[derive(Drop)]
 pub struct Beginning<const N: usize> {
     bytes: [u8; N],
@@ -21,7 +21,7 @@ impl<const N: usize> Model for Beginning<N> {
 }
 
 impl<const N: usize> Beginning<N> {
-    /// Nothing yet.
+    /// Creates an empty value.
     pub fn new() -> Beginning<N>
         ensures { result ≡ [] }
     {
@@ -31,7 +31,7 @@ impl<const N: usize> Beginning<N> {
         }
     }
 
-    /// Adds bytes, as far as there is room.
+    /// Adds the bytes of `text` that still fit.
     pub fn add(&mut self, text: &[u8])
         ensures { self.new ≡ take N (self.old ++ text.now) }
     {
@@ -40,7 +40,7 @@ impl<const N: usize> Beginning<N> {
         self.len = put(bytes, self.len, &text[..count]);
     }
 
-    /// The bytes.
+    /// Returns the bytes.
     pub fn as_slice(&self) -> &[u8]
         ensures value { result.now ≡ self.now }
         ensures few { length self.now ≤ N }
@@ -49,7 +49,7 @@ impl<const N: usize> Beginning<N> {
     }
 }
 
-// Puts bytes behind those at the front, and answers where they end.
+// Copies `text` to index `at` of `bytes`, and returns the index after it.
 fn put(bytes: &mut [u8], at: usize, text: &[u8]) -> usize
     requires { at + length text.now ≤ length bytes.old }
     ensures text { take result bytes.new ≡ take at bytes.old ++ text.now }

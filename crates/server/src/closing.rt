@@ -1,4 +1,4 @@
-//! The close of a server's store, and its event line.
+//! Closes the store of a server, and writes the event line of the close.
 ghost use Rattle.std.specs.Prelude.{◌≡◌, IfOk, OnOk};
 ghost use Rattle.event_lines.specs.Notes.{NotesAll};
 ghost use Rattle.event_lines.specs.Views.{text_of};
@@ -10,7 +10,11 @@ use job_facts::{ServerStore, StoreFault};
 use std::alloc::{AllocError, Global};
 use std::io::Write;
 
-/// Closes a store over which so many connections were served, and writes the event line of that.
+/// Closes `store` after `count` connections, and writes the event line.
+///
+/// # Errors
+///
+/// Returns the fault if the store can't be closed.
 pub(crate) fn close<S: ServerStore, E: Write + Drop>(
     alloc: Global,
     store: S,

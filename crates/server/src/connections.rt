@@ -1,4 +1,4 @@
-//! Where connections come from, and go.
+//! The interface of a source of connections.
 ghost use Rattle.std.specs.Prelude.{◌≡◌};
 ghost use Rattle.server.specs.declared.connections.NextFault.TheVariants.{Memory};
 
@@ -7,12 +7,12 @@ use http_messages::ByteSource;
 use std::alloc::AllocError;
 use std::io::Write;
 
-/// Why there is no next connection.
+/// The reason why there is no next connection.
 #[derive(Clone, Copy, Debug, PartialEq, Eq)]
 pub enum NextFault {
-    /// Memory was refused.
+    /// An allocation failed.
     Memory,
-    /// The device failed, or the connections are used up.
+    /// The device failed, or no connection is left.
     Device,
 }
 
@@ -24,28 +24,34 @@ impl From<AllocError> for NextFault {
     }
 }
 
-/// Connections, which are handed out and taken back one by one.
+/// A source of connections. The caller gets each connection from `next`, serves it, and passes it
+/// to `back`.
 pub trait Connections {
     ghost use Rattle.std.specs.Prelude.{◌≡◌, Option, OnOk, IfOk, IfErr, option_map};
     ghost use Rattle.server.specs.declared.connections.NextFault.{NextFault as Fault};
     ghost use Rattle.server.specs.Exchanges.{Opens, Queue, moved};
 
-    /// What brings a connection's bytes.
+    /// The reader of a connection's bytes.
     type In: ByteSource;
 
-    /// What takes the bytes of the reply.
+    /// The writer of the response.
     type Out: Write;
 
-    /// Those that were taken back, and what the others bring, where that is known.
+    /// The connections that were taken back and the bytes of those to come, if they are known.
     ghost queue: { Self → Option Queue };
 
-    /// One is out.
+    /// A connection is in progress: `next` returned it, and it wasn't taken back yet.
     ghost awaits: { Self → Type 0 };
 
-    /// Why there may be no next one.
+    /// The condition under which `next` may return a fault.
     ghost refuses: { Self → Fault → Type 0 };
 
-    /// Hands out the next connection. Errors: refused memory, and the device's faults.
+    /// Returns the next connection.
+    ///
+    /// # Errors
+    ///
+    /// - `Memory`: an allocation fails.
+    /// - `Device`: the device fails, or there are no more connections.
     fn next(&mut self) -> Result<(Self::In, Self::Out), NextFault>
         ensures same { queue self.new ≡ queue self.old }
         ensures cause { IfErr result (λ fault. refuses self.new fault) }
@@ -53,7 +59,7 @@ pub trait Connections {
         ensures opens { IfOk result
             (λ pair. Opens (queue self.new) (Self.In.brings pair.0) (Self.Out.contents pair.1)) };
 
-    /// Takes back the connection that is out, with what became of it.
+    /// Takes back the connection in progress. `served` is its outcome.
     fn back(&mut self, incoming: Self::In, writer: Self::Out, served: Served)
         requires { awaits self.old }
         ensures { queue self.new

@@ -1,4 +1,4 @@
-//! A reader and a writer that keep the first bytes that pass.
+//! A reader and a writer that keep the first bytes that pass through them.
 ghost use Rattle.std.specs.Prelude.{◌≡◌, None};
 ghost use Rattle.server.specs.Bytes.{KeepsRead, KeepsReply, KeepsWritten};
 
@@ -8,20 +8,21 @@ use http_messages::ByteSource;
 use std::io::{self, Write};
 use std::marker::{Brand, PhantomData};
 
-/// The most bytes of a request that are kept.
+/// The maximum number of bytes that are kept of a request.
 pub const REQUEST_BYTES: usize = 256;
 
-/// The most bytes of a reply that are kept.
+/// The maximum number of bytes that are kept of a response.
 pub const REPLY_BYTES: usize = 512;
 
-/// Where a connection begins. Each connection picks it.
+/// The state of the reader and the writer of a connection at its start, which contracts refer to.
+/// Each connection chooses its own.
 pub trait Start {
     ghost use Rattle.std.specs.Prelude.{ℕ, List, Option};
 
-    /// What comes of it, where that is known.
+    /// The bytes that the reader brings, if they are known.
     ghost brings: { Option (List ℕ) };
 
-    /// What its writer holds, where that is known.
+    /// The contents of the writer, if they are known.
     ghost contents: { Option (List ℕ) };
 }
 
@@ -42,7 +43,7 @@ pub struct KeepingReader<I: ByteSource, K: Start> {
 }
 
 impl<I: ByteSource, K: Start> KeepingReader<I, K> {
-    /// Keeps what this reader brings from now on.
+    /// Creates a reader that keeps the first bytes that `inner` brings from now on.
     pub fn new(inner: I) -> KeepingReader<I, K>
         requires { I.brings inner ≡ K.brings }
         ensures { result.inner ≡ inner }
@@ -54,7 +55,7 @@ impl<I: ByteSource, K: Start> KeepingReader<I, K> {
         }
     }
 
-    /// The reader, and the first bytes that it brought.
+    /// Returns the inner reader and the first bytes that it brought.
     pub fn into_parts(self) -> (I, Beginning<REQUEST_BYTES>)
         ensures inner { result.0 ≡ self.inner }
         ensures kept { ∥ KeepsRead K.brings (I.brings result.0) result.1 ∥₁ }
@@ -76,9 +77,14 @@ impl<I: ByteSource, K: Start> ByteSource for KeepingReader<I, K> {
         self.first.add(&buf[..count]);
         count
     }
+
+    fn is_cut(&self) -> bool {
+        self.inner.is_cut()
+    }
 }
 
-/// A writer that keeps the first bytes that it takes, and of those that it was offered last.
+/// A writer that keeps the first bytes that it accepted. It also keeps what they would be if the
+/// last write had accepted all of its bytes.
 pub struct KeepingWriter<W: Write, K: Start> {
     inner: W,
     taken: Beginning<REPLY_BYTES>,
@@ -88,7 +94,7 @@ pub struct KeepingWriter<W: Write, K: Start> {
 }
 
 impl<W: Write, K: Start> KeepingWriter<W, K> {
-    /// Keeps what this writer takes from now on.
+    /// Creates a writer that keeps the first bytes that `inner` accepts from now on.
     pub fn new(inner: W) -> KeepingWriter<W, K>
         requires { W.contents inner ≡ K.contents }
         ensures { result.inner ≡ inner }
@@ -101,7 +107,8 @@ impl<W: Write, K: Start> KeepingWriter<W, K> {
         }
     }
 
-    /// The writer, and the first bytes of the reply of a connection that ended so.
+    /// Returns the inner writer and the first bytes of the response of a connection that ended with
+    /// `end`. If a write failed, they may include bytes of this write that were not accepted.
     pub fn into_parts(self, end: End) -> (W, Beginning<REPLY_BYTES>)
         ensures inner { result.0 ≡ self.inner }
         ensures kept { ∥ KeepsReply end K.contents (W.contents result.0) result.1 ∥₁ }

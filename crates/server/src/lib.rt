@@ -1,5 +1,5 @@
-//! Connections, served one after the other, one message and one reply each; what is observed of
-//! each, and the event lines of a server from its first line to its last.
+//! Serves connections one at a time, with one message and one response each. Also observes each
+//! connection, and writes all lines and event lines of a server.
 #![tactic(auto)]
 
 mod account;

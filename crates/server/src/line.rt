@@ -14,9 +14,17 @@ use http_messages::reply_parts;
 use job_facts::StoreFault;
 use std::alloc::{AllocError, Global};
 
-/// Returns the line of a connection: how it ended, its status, and its request line, or else how
-/// many bytes arrived. The line of a refusal has its code and name, and that of a 503 the fault of
-/// the store.
+/// Returns the event line of a connection: its end, the status of its response, and its request
+/// line. The line of a refusal has its code and name, and the line of a 503 has the fault of the
+/// store.
+///
+/// Only the first 256 bytes of the client are kept. They appear only up to the first CR LF, and
+/// only if they have the form of a request line. Otherwise the line has their number. A body with
+/// status 200 never appears, not even in part.
+///
+/// # Errors
+///
+/// Returns `AllocError` if an allocation fails.
 pub fn connection_line(alloc: Global, observation: &Observation) -> Result<EventLine, AllocError>
     ensures { IfOk result (λ line. text_of line ≡ connection_line observation.now) }
 {
@@ -24,7 +32,7 @@ pub fn connection_line(alloc: Global, observation: &Observation) -> Result<Event
     with_request(line, observation.request.as_slice())
 }
 
-// With the request line at the front of `bytes`, or otherwise with their number.
+// Adds the request line at the start of `bytes`, or otherwise the number of bytes.
 fn with_request(line: EventLine, bytes: &[u8]) -> Result<EventLine, AllocError>
     ensures { IfOk result (λ more. text_of more ≡ text_of line ++ request_pair bytes.now) }
 {
@@ -34,7 +42,7 @@ fn with_request(line: EventLine, bytes: &[u8]) -> Result<EventLine, AllocError>
     }
 }
 
-// The line without the request.
+// Returns the line without the request.
 fn outcome_line(alloc: Global, observation: &Observation) -> Result<EventLine, AllocError>
     ensures { IfOk result (λ line. text_of line
         ≡ outcome_text observation.now.served.end observation.now) }
@@ -51,7 +59,7 @@ fn outcome_line(alloc: Global, observation: &Observation) -> Result<EventLine, A
     }
 }
 
-// With the status, where one is there.
+// Adds the status, if there is one.
 fn with_status(line: EventLine, status: &str) -> Result<EventLine, AllocError>
     ensures { IfOk result (λ more. text_of more ≡ text_of line ++ status_pair status.now) }
 {
@@ -62,7 +70,8 @@ fn with_status(line: EventLine, status: &str) -> Result<EventLine, AllocError>
     }
 }
 
-// With a refusal's code and name. Nothing is shown of a body of status 200.
+// Adds the code and name of a refusal. No part of a body with status 200 is shown, because it may
+// contain a command.
 fn with_refusal(line: EventLine, observation: &Observation) -> Result<EventLine, AllocError>
     ensures { IfOk result (λ more. text_of more ≡ text_of line ++ refusal_pairs observation.now) }
 {
@@ -76,7 +85,7 @@ fn with_refusal(line: EventLine, observation: &Observation) -> Result<EventLine,
     }
 }
 
-// With the fault of the store, where it is that.
+// Adds the fault of the store, if the status is 503.
 fn with_fault(line: EventLine, observation: &Observation) -> Result<EventLine, AllocError>
     ensures { IfOk result (λ more. text_of more ≡ text_of line ++ fault_pair observation.now) }
 {
@@ -87,7 +96,7 @@ fn with_fault(line: EventLine, observation: &Observation) -> Result<EventLine, A
     }
 }
 
-/// The word for a fault of the store.
+/// Returns the word for `fault` in event lines.
 pub fn fault_word(fault: StoreFault) -> &'static str
     ensures { result.now ≡ fault_word fault }
 {

@@ -1,4 +1,4 @@
-//! A list of connections: the headline.
+//! Serves a list of connections. The contract of `serve_all` is the main theorem.
 ghost use Rattle.std.specs.Prelude.{◌≡◌, List, OnOk, OnErr, IfErr, length, ◌<◌};
 ghost use Rattle.server.specs.Exchanges.{Exchange, Moves, ServesAll};
 
@@ -8,8 +8,12 @@ use http_requests::Routes;
 use job_facts::JobStore;
 use std::alloc::Global;
 
-/// Serves so many connections, one after the other. Errors: the fault that hands out no next one,
-/// which ends it; what was served stands.
+/// Serves `turns` connections, one at a time.
+///
+/// # Errors
+///
+/// Returns the fault if the next connection can't be accepted. Connections served before are not
+/// affected.
 pub fn serve_all<S: JobStore, C: Connections>(
     alloc: Global,
     store: &mut S,

@@ -1,4 +1,4 @@
-//! Connections over memory, which keep what each brought and got.
+//! Connections in memory, which keep the input and the response of each connection.
 ghost use Rattle.std.specs.Prelude.{◌≡◌, []};
 ghost use Rattle.server.specs.Memory.{bytes_left, queue, replies_of, texts};
 
@@ -8,7 +8,7 @@ use http_messages::ByteSource;
 use std::alloc::Global;
 use std::mem;
 
-/// Bytes that come in pieces.
+/// A reader that returns bytes from memory in pieces.
 #[derive(Drop)]
 pub struct MemoryReader {
     bytes: Vec<u8>,
@@ -17,7 +17,7 @@ pub struct MemoryReader {
 }
 
 impl MemoryReader {
-    /// These bytes, in pieces of at most so many, and of one at least.
+    /// Creates a reader of `bytes` that returns at most `most` bytes per call, but at least one.
     pub fn new(bytes: Vec<u8>, most: usize) -> MemoryReader
         ensures { bytes_left result ≡ bytes.items }
     {
@@ -42,18 +42,19 @@ impl ByteSource for MemoryReader {
     }
 }
 
-/// What a connection brought and got, and what became of it.
+/// The input, the response and the outcome of a connection.
 #[derive(Drop)]
 pub struct Replied {
-    /// All its bytes, those behind its message too.
+    /// All bytes of the connection, including those after its message.
     pub input: Vec<u8>,
-    /// Its reply, or a beginning of it.
+    /// The response, or a prefix of it.
     pub written: Vec<u8>,
-    /// How it ended.
+    /// The outcome of the connection.
     pub served: Served,
 }
 
-/// Connections that bring these bytes, one after the other.
+/// Connections in memory, to be served in order. `next` reserves the memory in which `back` keeps
+/// the result, so `back` allocates nothing.
 #[derive(Drop)]
 pub struct MemoryConnections {
     alloc: Global,
@@ -63,8 +64,8 @@ pub struct MemoryConnections {
 }
 
 impl MemoryConnections {
-    /// One connection for each of these, whose bytes come in pieces of at most so many, and of one
-    /// at least.
+    /// Creates a connection for each element of `inputs`. Its reader returns at most `most` bytes
+    /// per call, but at least one.
     pub fn new(alloc: Global, inputs: Vec<Vec<u8>>, most: usize) -> MemoryConnections
         ensures done { (queue result).done ≡ [] }
         ensures coming { (queue result).coming ≡ texts inputs.items }
@@ -77,7 +78,7 @@ impl MemoryConnections {
         }
     }
 
-    /// What those that were taken back brought and got, in order.
+    /// Returns the connections that were taken back, in order.
     pub fn replies(&self) -> &[Replied]
         ensures { result.now ≡ replies_of self.now }
     {

@@ -1,4 +1,4 @@
-//! The event lines that are written of a connection.
+//! Writes the event lines of a connection.
 ghost use Rattle.std.specs.Prelude.{◌≡◌};
 ghost use Rattle.event_lines.specs.Notes.{NotesAll};
 ghost use Rattle.server.specs.ConnectionLines.{fails_after, lines_at, own_lines};
@@ -10,8 +10,9 @@ use event_lines::{EventLine, EventLog, Level};
 use std::alloc::Global;
 use std::io::Write;
 
-/// Writes what the level wants of a connection that was served, by whether the store failed before
-/// it, and answers whether it fails after it.
+/// Writes the event lines of a served connection, as far as the level of `events` includes them.
+/// `is_failing` tells whether the store was failing before the connection. Returns `true` if it is
+/// failing after it.
 pub fn note_connection<E: Write + Drop>(
     alloc: Global,
     events: &mut EventLog<E>,
@@ -28,7 +29,7 @@ pub fn note_connection<E: Write + Drop>(
     observation.fails_after(is_failing)
 }
 
-// Writes that the store works again, where it does.
+// Writes `recovered` if the store works again.
 fn note_recovery<E: Write + Drop>(
     alloc: Global,
     events: &mut EventLog<E>,
@@ -45,7 +46,7 @@ fn note_recovery<E: Write + Drop>(
     }
 }
 
-// Writes the connection's own line, where the level wants it.
+// Writes the connection's own line if the level includes it.
 fn note_own<E: Write + Drop>(alloc: Global, events: &mut EventLog<E>, observation: &Observation)
     ensures level { events.new.level ≡ events.old.level }
     ensures noted { NotesAll events.old.level (E.contents events.old.writer)

@@ -1,4 +1,4 @@
-//! What is observed of a connection that was served.
+//! The observation of a served connection, from which its event lines are made.
 ghost use Rattle.std.specs.Prelude.{◌≡◌};
 
 use crate::beginning::Beginning;
@@ -7,18 +7,19 @@ use crate::served::{End, Served};
 use crate::words::status_digits;
 use job_facts::{FaultCounts, StoreFault};
 
-/// What is observed of a connection that was served.
+/// The observation of a served connection.
 #[derive(Drop)]
 pub struct Observation {
-    /// The first bytes that were read of it.
+    /// The first bytes that were read from the connection.
     pub request: Beginning<REQUEST_BYTES>,
-    /// The first bytes of its reply; where the writer failed, also of what it did not take.
+    /// The first bytes of the response. If a write failed, they may include bytes that the writer
+    /// didn't take.
     pub reply: Beginning<REPLY_BYTES>,
-    /// How it ended.
+    /// The outcome of the connection.
     pub served: Served,
-    /// How often the store had failed before it.
+    /// The fault counters of the store before the connection.
     pub before: FaultCounts,
-    /// How often the store had failed after it.
+    /// The fault counters of the store after the connection.
     pub after: FaultCounts,
 }
 
@@ -28,43 +29,46 @@ impl Observation {
     ghost use Rattle.server.specs.Observations.{fault_between};
     ghost use Rattle.server.specs.Words.{status_digits};
 
-    /// The digits of its reply's status; none where too little of the reply is there.
+    /// Returns the digits of the response's status. The text is empty if the known bytes don't
+    /// contain it.
     pub fn status(&self) -> &str
         ensures { result.now ≡ status_digits self.now.reply }
     {
         status_digits(self.reply.as_slice())
     }
 
-    /// Whether its reply has status 200, and was written whole.
+    /// Returns `true` if the response has status 200 and was written completely.
     pub fn is_accepted(&self) -> bool
         ensures { result ≡ is_accepted self.now }
     {
         self.served.end == End::Answered && self.status() == "200"
     }
 
-    /// Whether the store failed, or memory was refused.
+    /// Returns `true` if the response has status 503, because the store or an allocation failed.
     pub fn is_unavailable(&self) -> bool
         ensures { result ≡ is_unavailable self.now }
     {
         self.status() == "503"
     }
 
-    /// Whether the store worked.
+    /// Returns `true` if the store worked: an arrival was decided, or the response has status 200
+    /// or 409.
     pub fn was_served(&self) -> bool
         ensures { result ≡ was_served self.now }
     {
         self.served.decided || self.status() == "200" || self.status() == "409"
     }
 
-    /// Whether the store fails after it, by whether it did before: it does from a 503 on, until it
-    /// works again.
+    /// Returns `true` if the store is failing after the connection. `is_failing` tells whether it
+    /// was failing before. After a 503, the store is failing until it serves a connection again.
     pub fn fails_after(&self, is_failing: bool) -> bool
         ensures { result ≡ fails_after is_failing self.now }
     {
         self.is_unavailable() || is_failing && !self.was_served()
     }
 
-    /// Which fault of the store it was, where the store failed.
+    /// Returns the fault of the store, from the counters before and after the connection. If no
+    /// counter has changed, it is `Memory`.
     pub fn fault(&self) -> StoreFault
         ensures { result ≡ fault_between self.now.before self.now.after }
     {

@@ -1,4 +1,4 @@
-//! One connection, served and observed.
+//! Serves one connection and observes it.
 ghost use Rattle.std.specs.Prelude.{◌≡◌, is_some};
 ghost use Rattle.std.specs.Io.KnownBytes.{Appends};
 ghost use Rattle.http_messages.specs.Messages.{Agrees};
@@ -17,8 +17,7 @@ use std::alloc::Global;
 use std::io::Write;
 use std::marker::Brand;
 
-/// Serves one connection, and gives it back with what was observed of it. Observing takes no
-/// memory.
+/// Serves one connection, and returns it with its observation. Observing allocates nothing.
 pub fn serve_observed<S: ServerStore, I: ByteSource, W: Write>(
     routes: &mut Routes,
     alloc: Global,
@@ -36,7 +35,8 @@ pub fn serve_observed<S: ServerStore, I: ByteSource, W: Write>(
     serve_from::<S, I, W, Brand>(routes, alloc, store, incoming, writer)
 }
 
-// The same, where it is known at which bytes the connection begins.
+// Serves one connection as `serve_observed` does. `K` names the state of its reader and writer at
+// the start, so that the contract can describe the bytes since then.
 fn serve_from<S: ServerStore, I: ByteSource, W: Write, K: Start>(
     routes: &mut Routes,
     alloc: Global,

@@ -1,4 +1,4 @@
-//! One connection.
+//! Serves one connection.
 ghost use Rattle.std.specs.Prelude.{◌≡◌, ℕ, List};
 ghost use Rattle.std.specs.Io.KnownBytes.{Appends};
 ghost use Rattle.job_facts.specs.Requests.{IsArrival};
@@ -26,9 +26,11 @@ use reply_store::{Kept, handle};
 use std::alloc::Global;
 use std::io::Write;
 
-/// Serves one connection: reads a message, does what it asks, and writes the reply. Once an arrival
-/// is handled it takes no memory. Where the writer fails a beginning of the reply was written, and
-/// what was decided stays.
+/// Serves one connection: reads a message, handles its request, and writes the response. Nothing is
+/// allocated after an arrival has been handled, so a failed allocation can't replace its reply. If
+/// the writer fails, only a prefix of the response is written, and a decided arrival stays decided.
+///
+/// Nothing is allocated before the head has passed its tests.
 pub fn serve_one<S: JobStore, I: ByteSource, W: Write>(
     alloc: Global,
     store: &mut S,
@@ -42,7 +44,7 @@ pub fn serve_one<S: JobStore, I: ByteSource, W: Write>(
     serve_by(&mut Routes::new(), alloc, store, incoming, writer)
 }
 
-/// The same, where one router serves many connections.
+/// Serves one connection as `serve_one` does, with a router that many connections share.
 pub(crate) fn serve_by<S: JobStore, I: ByteSource, W: Write>(
     routes: &mut Routes,
     alloc: Global,
@@ -65,7 +67,7 @@ pub(crate) fn serve_by<S: JobStore, I: ByteSource, W: Write>(
     }
 }
 
-// Does what a message asks.
+// Handles the request of a message.
 fn serve_asked<S: JobStore, W: Write>(
     alloc: Global,
     store: &mut S,
@@ -82,7 +84,7 @@ fn serve_asked<S: JobStore, W: Write>(
     }
 }
 
-// Handles an arrival, and sends its reply.
+// Handles an arrival and sends its reply.
 fn serve_arrival<S: JobStore, W: Write>(
     alloc: Global,
     store: &mut S,
@@ -131,7 +133,7 @@ fn send_kept<W: Write>(writer: &mut W, kept: &Kept) -> End
     send(writer, kept.status, Content::Json, kept.body.as_slice())
 }
 
-// Sends an account.
+// Sends an account or a report.
 fn serve_account<S: JobStore, W: Write>(
     alloc: Global,
     store: &mut S,

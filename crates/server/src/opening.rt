@@ -1,4 +1,5 @@
-//! The event line at a server's start: which file was opened, and how much it holds.
+//! Writes the event line at the start of a server, with the database file and the size of its
+//! contents.
 ghost use Rattle.std.specs.Prelude.{◌≡◌, ◌++◌, IfOk};
 ghost use Rattle.job_facts.specs.Store.{Stays};
 ghost use Rattle.event_lines.specs.Notes.{NotesAll};
@@ -11,18 +12,18 @@ use job_facts::ServerStore;
 use std::alloc::{AllocError, Global};
 use std::io::Write;
 
-/// The file that a server's store is in, and how it was found.
+/// The database file of a server, and its state when it was opened.
 #[derive(Clone, Copy, Debug)]
 pub struct Opened<'a> {
-    /// Its path.
+    /// The path of the file.
     pub path: &'a [u8],
-    /// It was made.
+    /// `true` if the database was created.
     pub is_new: bool,
-    /// A write-ahead log with frames stood beside it, which was taken in.
+    /// `true` if the file had a WAL with frames, which were read.
     pub has_log: bool,
 }
 
-/// How much a store holds; `None` where it could not be read.
+/// The size of a store's contents. A number is `None` if it couldn't be read.
 #[derive(Clone, Copy, Debug)]
 pub struct Holdings {
     pub batches: Option<u64>,
@@ -30,7 +31,7 @@ pub struct Holdings {
     pub replies: Option<u64>,
 }
 
-/// Writes the event line of the store's file. Where none are written, nothing is read for it.
+/// Writes the event line of the database file. If event lines are off, nothing is read for it.
 pub(crate) fn note_opening<S: ServerStore, E: Write + Drop>(
     alloc: Global,
     store: &mut S,
@@ -60,7 +61,7 @@ const NOTHING: Holdings = Holdings {
     replies: None,
 };
 
-// How much a store holds, as far as it can be read.
+// Returns the size of the store's contents, as far as it can be read.
 fn read_holdings<S: ServerStore>(store: &mut S) -> Holdings
     ensures stays { Stays (S.state store.old) (S.state store.new) }
     ensures value { AreHoldings (S.state store.old) (S.state store.new) result }
@@ -91,7 +92,7 @@ fn opening_line(
     with_count(line, "replies", held.replies)
 }
 
-// With a count, where it could be read.
+// Adds a number, if it could be read.
 fn with_count(line: EventLine, key: &str, count: Option<u64>) -> Result<EventLine, AllocError>
     ensures { IfOk result (λ more. text_of more ≡ text_of line ++ count_pair key.now count) }
 {

@@ -1,4 +1,4 @@
-//! Replies, written from a fixed array and from a body. That takes no memory.
+//! Writes responses, without an allocation.
 ghost use Rattle.std.specs.Prelude.{◌≡◌, ◌≤◌, ◌++◌, ℕ, List, false, length};
 ghost use Rattle.std.specs.Io.KnownBytes.{Appends};
 ghost use Rattle.http_messages.specs.FixedReplies.{refusal_text};
@@ -12,10 +12,11 @@ use http_messages::{Content, FixedReply, reply_head};
 use std::io::Write;
 use text_io::{WriteFailed, write_text};
 
-/// The most bytes of a body that is written with its head. A command's reply has fewer.
+/// The maximum size of a body that is written together with its head. A reply with a command is
+/// always shorter.
 const SHORT: usize = 768;
 
-/// Writes a reply, or a beginning of it where the writer fails.
+/// Writes a response. If the writer fails, only a prefix of it is written.
 pub(crate) fn send<W: Write>(writer: &mut W, status: u16, kind: Content, body: &[u8]) -> End
     ensures { (written : List ℕ) × Appends (W.contents writer.old) (W.contents writer.new) written
         × IsWritten result (reply_text status kind body.now) written }
@@ -26,7 +27,8 @@ pub(crate) fn send<W: Write>(writer: &mut W, status: u16, kind: Content, body: &
     }
 }
 
-// Writes the head and the body: at once where both fit, since each write is a packet of its own.
+// Writes the head and the body. If the body is short, both are written at once, because each write
+// sends a packet of its own.
 fn write_reply<W: Write>(
     writer: &mut W,
     status: u16,
@@ -57,7 +59,7 @@ fn write_joined<W: Write>(writer: &mut W, head: &[u8], body: &[u8]) -> Result<()
     write_text(writer, text.as_slice())
 }
 
-// Writes a head, and then a body.
+// Writes a head and then a body.
 fn write_apart<W: Write>(writer: &mut W, head: &[u8], body: &[u8]) -> Result<(), WriteFailed>
     ensures { Writes (W.contents writer.old) (W.contents writer.new) (head.now ++ body.now) result }
 {
@@ -65,7 +67,7 @@ fn write_apart<W: Write>(writer: &mut W, head: &[u8], body: &[u8]) -> Result<(),
     write_text(writer, body)
 }
 
-/// Writes a fixed reply.
+/// Writes the fixed response `why`.
 pub(crate) fn refuse<W: Write>(writer: &mut W, why: FixedReply) -> Served
     ensures written { (written : List ℕ)
         × Appends (W.contents writer.old) (W.contents writer.new) written

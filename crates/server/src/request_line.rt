@@ -1,6 +1,6 @@
-//! Recognizes a request line at the front of the bytes of a connection.
+//! Recognizes a request line at the start of the bytes of a connection.
 //!
-//! Other bytes that a peer sends may be card data, so they never appear in an event line.
+//! Other bytes that a client sends may be card data, so they never appear in an event line.
 ghost use Rattle.std.specs.Prelude.{◌≡◌, ◌≤◌, length, not, option_map};
 ghost use Rattle.std.specs.List.{after_first, before_first, list_all, prefix_len};
 ghost use Rattle.http_messages.specs.RequestHeads.{is_visible};
@@ -8,7 +8,7 @@ ghost use Rattle.server.specs.RequestLines.{is_line_end, is_method, is_request_l
 ghost use Rattle.server.specs.RequestLines.{is_target, is_target_and_version, is_token_char};
 ghost use Rattle.server.specs.RequestLines.{is_version, request_line};
 
-/// The marks that a token may contain beside letters and digits (RFC 9110, section 5.6.2).
+/// The characters of a token, except letters and digits (RFC 9110, section 5.6.2).
 const TOKEN_MARKS: &[u8] = b"!#$%&'*+-.^_`|~";
 
 /// Returns the first line of `bytes`, without its end, if CR LF ends it and it has the form of a
@@ -24,7 +24,7 @@ pub(crate) fn request_line(bytes: &[u8]) -> Option<&[u8]>
     }
 }
 
-// How many bytes precede the first CR or LF.
+// Returns the number of bytes before the first CR or LF.
 fn line_len(bytes: &[u8]) -> usize
     ensures value { result ≡ prefix_len (λ b. not (is_line_end b)) bytes.now }
     ensures bound { result ≤ length bytes.now }
@@ -52,7 +52,8 @@ fn is_target_and_version(rest: &[u8]) -> bool
     is_target(target) && is_version(version)
 }
 
-// The bytes before the first space and those after it. Without a space, all are before it.
+// Returns the bytes before the first space, and the bytes after it. Without a space, all bytes are
+// before it.
 fn split_at_space(text: &[u8]) -> (&[u8], &[u8])
     ensures before { result.0.now ≡ before_first is_space text.now }
     ensures after { result.1.now ≡ after_first is_space text.now }
@@ -64,7 +65,7 @@ fn split_at_space(text: &[u8]) -> (&[u8], &[u8])
     }
 }
 
-// How many bytes precede the first space.
+// Returns the number of bytes before the first space.
 fn word_len(text: &[u8]) -> usize
     ensures value { result ≡ prefix_len (λ b. not (is_space b)) text.now }
     ensures bound { result ≤ length text.now }

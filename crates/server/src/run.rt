@@ -1,4 +1,4 @@
-//! A server from its first line to its last.
+//! Runs a server from its first line to its last.
 ghost use Rattle.std.specs.Prelude.{◌≡◌, List, OnOk, Result, is_some, length};
 ghost use Rattle.job_facts.specs.declared.store.StoreFault.{StoreFault as StoreFaultValue};
 ghost use Rattle.server.specs.Exchanges.{Exchange, Moves, ServesAll};
@@ -17,11 +17,23 @@ use job_facts::ServerStore;
 use std::alloc::Global;
 use std::io::Write;
 
-/// Writes the port that it listens on, serves so many connections, one after the other, closes the
-/// store, and writes how many they were. Beside these two lines it writes the event lines of the
-/// file, of the connections and of the close. Errors: one of the two lines can't be written, memory
-/// is refused, there is no next connection, or the store can't be closed; what was served stands,
-/// and the store is closed all the same. What can't be written of event lines is no error.
+/// Writes a line with the port, serves `turns` connections, one at a time, closes the store, and
+/// writes a line with the number of connections. Also writes the event lines of the database file,
+/// the connections and the close. An event line that can't be written is not an error.
+///
+/// Over sockets, no contract relates the event lines to the bytes of the connections. Only a test
+/// shows that the two lines on `writer` are flushed.
+///
+/// # Errors
+///
+/// Connections served before an error are not affected, and the store is closed even after an
+/// error.
+///
+/// - `Next`: the next connection can't be accepted.
+/// - `Write`: one of the two lines can't be written.
+/// - `Memory`: an allocation fails. If the first line was written, either all connections were
+///   served, or the allocation was for the next connection.
+/// - `Store`: all connections were served, but the store can't be closed.
 pub fn serve_and_report<S: ServerStore, C: Connections, W: Write, E: Write + Drop>(
     alloc: Global,
     store: S,
@@ -48,7 +60,7 @@ pub fn serve_and_report<S: ServerStore, C: Connections, W: Write, E: Write + Dro
     finish(alloc, store, run, events, writer, turns)
 }
 
-// The first line, and then the connections.
+// Writes the first line, and then serves the connections.
 fn serve_listening<S: ServerStore, C: Connections, W: Write, E: Write + Drop>(
     alloc: Global,
     store: &mut S,
@@ -75,8 +87,8 @@ fn serve_listening<S: ServerStore, C: Connections, W: Write, E: Write + Drop>(
     }
 }
 
-// Closes the store, and then writes the last line, where all connections were served and it was
-// closed.
+// Closes the store, and then writes the last line if all connections were served and the store
+// could be closed.
 fn finish<S: ServerStore, W: Write, E: Write + Drop>(
     alloc: Global,
     store: S,

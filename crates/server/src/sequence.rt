@@ -1,4 +1,4 @@
-//! A server's connections, one after the other, with the event lines of each.
+//! Serves the connections of a server one at a time, with the event lines of each.
 ghost use Rattle.std.specs.Prelude.{◌≡◌, ◌<◌, List, IfErr, OnErr, OnOk, length};
 ghost use Rattle.server.specs.Exchanges.{Exchange};
 ghost use Rattle.server.specs.declared.connections.NextFault.{NextFault as NextFaultValue};
@@ -16,14 +16,14 @@ use job_facts::ServerStore;
 use std::alloc::Global;
 use std::io::Write;
 
-/// How many connections were served, and why no more, where more were wanted.
+/// The number of connections served, and the reason if there were fewer than requested.
 #[derive(Clone, Copy)]
 pub(crate) struct Run {
     pub(crate) count: u32,
     pub(crate) outcome: Result<(), ServeStop>,
 }
 
-/// Serves so many connections, one after the other, and writes the event lines of each.
+/// Serves `turns` connections, one at a time, and writes the event lines of each.
 pub(crate) fn serve_connections<S: ServerStore, C: Connections, E: Write + Drop>(
     alloc: Global,
     store: &mut S,

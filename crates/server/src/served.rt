@@ -1,21 +1,22 @@
-//! What became of a connection.
+//! The outcome of a connection.
 
-/// How a connection ended.
+/// The end of a connection.
 #[derive(Clone, Copy, Debug, PartialEq, Eq)]
 pub enum End {
-    /// The whole reply was written.
+    /// The whole response was written.
     Answered,
     /// The message ended too early, and nothing was written.
     Broken,
-    /// The writer failed, or took nothing: a beginning of the reply was written.
+    /// The writer failed or took no bytes, and only a prefix of the response was written.
     WriteFailed,
 }
 
-/// What became of a connection.
+/// The outcome of a connection.
 #[derive(Clone, Copy, Debug, PartialEq, Eq)]
 pub struct Served {
-    /// How it ended.
+    /// The end of the connection.
     pub end: End,
-    /// An arrival was decided: its reply is kept, also where it could not be written.
+    /// `true` if an arrival was decided, that is, no fault of the store ended it. It stays decided
+    /// even if its reply couldn't be written.
     pub decided: bool,
 }

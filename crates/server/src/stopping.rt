@@ -1,4 +1,4 @@
-//! A line, written and flushed, and why a server stops.
+//! Writes the lines of a server, and defines the reasons why it stops.
 ghost use Rattle.std.specs.Prelude.{◌≡◌};
 ghost use Rattle.server.specs.ServerLines.{WritesLine, listening_text, numbered, of_next};
 ghost use Rattle.server.specs.ServerLines.{served_text};
@@ -10,16 +10,16 @@ use std::alloc::{AllocError, Global};
 use std::io;
 use text_io::{WriteFailed, write_text};
 
-/// Why a server stops before its last line.
+/// The reason why a server stops before its last line.
 #[derive(Clone, Copy, Debug, PartialEq, Eq)]
 pub enum ServeStop {
-    /// There is no next connection.
+    /// The next connection can't be accepted.
     Next,
-    /// One of its lines can't be written.
+    /// One of the two lines can't be written.
     Write,
-    /// Memory was refused.
+    /// An allocation failed.
     Memory,
-    /// All its connections were served, and the store could not be closed.
+    /// All connections were served, but the store couldn't be closed.
     Store { fault: StoreFault },
 }
 
@@ -50,7 +50,12 @@ impl From<WriteFailed> for ServeStop {
     }
 }
 
-/// Writes the port that it listens on, and flushes.
+/// Writes a line with the port, and flushes it.
+///
+/// # Errors
+///
+/// - `Write`: the line can't be written.
+/// - `Memory`: an allocation fails. Nothing is written.
 pub(crate) fn write_listening<W: io::Write>(
     alloc: Global,
     port: u32,
@@ -62,7 +67,12 @@ pub(crate) fn write_listening<W: io::Write>(
     write_number(alloc, "listening 127.0.0.1:", port, writer)
 }
 
-/// Writes how many connections it served, and flushes.
+/// Writes a line with `turns`, the number of connections served, and flushes it.
+///
+/// # Errors
+///
+/// - `Write`: the line can't be written.
+/// - `Memory`: an allocation fails. Nothing is written.
 pub(crate) fn write_served<W: io::Write>(
     alloc: Global,
     turns: u32,
@@ -74,7 +84,7 @@ pub(crate) fn write_served<W: io::Write>(
     write_number(alloc, "served ", turns, writer)
 }
 
-// Writes a number behind these words.
+// Writes a line with `words` and `number`, and flushes it.
 fn write_number<W: io::Write>(
     alloc: Global,
     words: &str,
@@ -88,7 +98,7 @@ fn write_number<W: io::Write>(
     write_flushed(writer, text.as_bytes())
 }
 
-// Writes a text, and flushes it.
+// Writes `text` and flushes it.
 fn write_flushed<W: io::Write>(writer: &mut W, text: &[u8]) -> Result<(), ServeStop>
     ensures { WritesLine (W.contents writer.old) (W.contents writer.new) text.now result }
 {

@@ -1,4 +1,4 @@
-//! What the first bytes of a reply say.
+//! Extracts the status and the refusal from the first bytes of a response.
 ghost use Rattle.std.specs.Prelude.{◌≡◌, ◌≤◌, length, option_map};
 ghost use Rattle.std.specs.Char.{is_ascii_digit};
 ghost use Rattle.std.specs.List.{prefix_len};
@@ -8,7 +8,8 @@ ghost use Rattle.server.specs.Words.{status_digits, word_in};
 use http_messages::reply_parts;
 use std::str::from_utf8;
 
-/// The digits of a reply's status; none where too little of the reply is there.
+/// Returns the digits of the status of the response `reply`. The text is empty if `reply` doesn't
+/// contain the status.
 pub fn status_digits(reply: &[u8]) -> &str
     ensures { result.now ≡ status_digits reply.now }
 {
@@ -16,7 +17,8 @@ pub fn status_digits(reply: &[u8]) -> &str
     digits_in(status)
 }
 
-/// A refusal's code and name, by the front of a reply's body; `None` where it is no refusal's.
+/// Returns the code and name of a refusal from the first bytes of a response body, or `None` if it
+/// isn't a refusal.
 pub fn refusal_in(body: &[u8]) -> Option<(&str, &str)>
     ensures { option_map (λ r. (r.0.now, r.1.now)) result ≡ refusal_in body.now }
 {
@@ -26,8 +28,7 @@ pub fn refusal_in(body: &[u8]) -> Option<(&str, &str)>
     Some((code, word_in(name)))
 }
 
-// What follows the client's release mark, which a refused number that was released has before the
-// name.
+// Skips the client's release mark, which precedes the name in the refusal of a released number.
 fn past_mark(text: &[u8]) -> &[u8]
     ensures { result.now ≡ past_mark text.now }
 {
@@ -37,7 +38,7 @@ fn past_mark(text: &[u8]) -> &[u8]
     }
 }
 
-// The digits at the front.
+// Returns the digits at the start of `text`.
 fn digits_in(text: &[u8]) -> &str
     ensures { result.now ≡ digits_in text.now }
 {
@@ -51,7 +52,7 @@ fn digits_len(text: &[u8]) -> usize
     text.iter().take_while(|b| b.is_ascii_digit()).count()
 }
 
-// The word at the front: small letters and dashes.
+// Returns the lower-case letters and dashes at the start of `text`.
 fn word_in(text: &[u8]) -> &str
     ensures { result.now ≡ word_in text.now }
 {
@@ -65,7 +66,7 @@ fn word_len(text: &[u8]) -> usize
     text.iter().take_while(|b| is_word_byte(**b)).count()
 }
 
-// A small letter, or a dash.
+// Returns `true` if `byte` is a lower-case letter or a dash.
 fn is_word_byte(byte: u8) -> bool
     ensures { result ≡ is_word_byte byte }
 {

@@ -1,21 +1,21 @@
-//! The program `shopbook`: what auditors and the office ask of a server's file. It joins its
-//! arguments, the file, its streams, and its exit status.
+//! The program `shopbook`, which prints the contents of a server's database file for auditors and
+//! the office. It connects its arguments, the file, streams and its exit status with functions of
+//! libraries.
 #![tactic(auto)]
 
 use arguments::WordsFault;
-use book_answers::print_answer;
-use book_arguments::{BookWords, read_book_words};
-use book_file::{Book, book_in};
+use book_answers::print_from_file;
+use book_arguments::{Ask, BookWords, read_book_words};
 use event_lines::{EventLog, Level};
 use file_causes::Damage;
 use over_tables::FileFault;
-use sqlite_disk::Unknown;
 use std::io::IsTerminal;
 use std::process::ExitCode;
 use std::{env, fs, io};
-use subcommands::{End, end_of_words, exit_of, explain, note_refusal};
+use store_files::has_suspect_wal;
+use subcommands::{End, end_of_words, exit_of, explain, note_refusal, note_suspect_wal};
 
-/// A file of so many bytes is audited in some two seconds.
+/// The size in bytes of a database file whose audit takes about two seconds.
 const LONG: u64 = 20_000_000;
 
 fn main(rt: HostRuntime) -> ExitCode {
@@ -33,21 +33,23 @@ fn main(rt: HostRuntime) -> ExitCode {
     ExitCode::from(exit.status)
 }
 
-// What the arguments of the process ask for.
+// Parses the arguments of the process.
 fn asked(rt: &HostRuntime) -> Result<BookWords, WordsFault> {
     let words = env::args(rt)?.collect::<Vec<String>>(rt.alloc())?;
     read_book_words(rt.alloc(), words.as_slice())
 }
 
-// Reads the file, and prints it.
+// Reads the database file, and prints the output of the subcommand.
 fn obey(rt: &HostRuntime, words: &BookWords) -> End {
     note_wait(rt, words.db.as_str());
-    let (read, files) = book_in(rt, words.db.as_str(), Unknown);
-    drop(files);
-    match read {
-        Ok(book) => {
-            note_damage(rt, words, &book);
-            print_answer(rt.alloc(), words, &book, &mut io::writer(rt))
+    note_suspect(rt, words);
+    match print_from_file(rt, words, &mut io::writer(rt)) {
+        Ok(printed) => {
+            if let Some(rule) = printed.failing {
+                let cause = Damage::Broken { rule };
+                note(rt, words, &FileFault::Damaged { cause });
+            }
+            printed.end
         }
         Err(fault) => {
             note(rt, words, &fault);
@@ -56,7 +58,18 @@ fn obey(rt: &HostRuntime, words: &BookWords) -> End {
     }
 }
 
-// The line for a person at a terminal who has to wait.
+// Writes the event line of a WAL that looks damaged, for the subcommand `check`. Another program
+// wrote such a WAL, and no subcommand refuses it. SQLite drops everything after the damage when it
+// opens the file, so the WAL is examined first.
+fn note_suspect(rt: &HostRuntime, words: &BookWords) {
+    let path = words.db.as_str();
+    if matches!(&words.ask, Ask::Check) && has_suspect_wal(rt, path) {
+        let mut events = EventLog::new(Level::Usual, rt.stderr());
+        note_suspect_wal(rt.alloc(), path.as_bytes(), &mut events);
+    }
+}
+
+// Tells a person at a terminal that the audit of a large file takes some time.
 fn note_wait(rt: &HostRuntime, path: &str) {
     let is_long = match fs::metadata(rt, path) {
         Ok(found) => found.len() >= LONG,
@@ -67,15 +80,7 @@ fn note_wait(rt: &HostRuntime, path: &str) {
     }
 }
 
-// The event line of a file whose rows break a rule.
-fn note_damage(rt: &HostRuntime, words: &BookWords, book: &Book) {
-    if let Some(rule) = book.failing {
-        let cause = Damage::Broken { rule };
-        note(rt, words, &FileFault::Damaged { cause });
-    }
-}
-
-// The event line of a file that is refused.
+// Writes the event line of a file that is refused or damaged.
 fn note(rt: &HostRuntime, words: &BookWords, fault: &FileFault) {
     let mut events = EventLog::new(Level::Usual, rt.stderr());
     note_refusal(rt.alloc(), fault, words.db.as_bytes(), &mut events);

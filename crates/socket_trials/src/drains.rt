@@ -1,128 +1,226 @@
-//! What is read of a connection once its reply is written. One that is closed with unread bytes is
-//! reset, and its peer may lose the reply.
-use crate::fake::{Fake, Floor, Step};
-use list_store::ListStore;
+//! Tests of drains: which bytes of a connection are read after its response. Closing a connection
+//! with unread bytes resets it, and its peer may lose the response.
+use crate::crowd::{Crowd, Hall, Peer, Piece};
+use crate::peers::SERVED;
+use http_messages::ByteSource;
 use loopback::Loopback;
-use server::serve_all;
+use server::Connections;
 use std::alloc::Global;
-use std::io::ErrorKind;
-use std::net::{Net, Shutdown};
+use std::io::Write;
+use std::net::Shutdown;
 use std::process::Abort;
 use std::test::Fail;
-use std::time::Clock;
 
-// One byte more than a body may have.
+// The head of a message whose body has one byte more than 16 MiB.
 const TOO_LARGE: &[u8] = b"POST /c/m1/1 HTTP/1.1\r\nContent-Length: 16777217\r\n\r\n";
 
-// A head of the most bytes, without its end.
-static ENDLESS: [u8; 8192] = [b'a'; 8192];
+// As many bytes as a head may have, without the end of a head.
+const ENDLESS: &[u8] = &[b'a'; 8192];
 
 const CHUNKED: &[u8] = b"POST /c/m1/1 HTTP/1.1\r\nTransfer-Encoding: chunked\r\n\r\n";
 
 const RESET: &[u8] = b"POST /c/m1/1 HTTP/1.1\r\nContent-Length: 14\r\n\r\n{\"do\":\"reset\"}";
 
-const CUT: Step = Step::Fails(0, ErrorKind::ConnectionReset);
+const NO_JSON: &[u8] = b"POST /c/m1/1 HTTP/1.1\r\nContent-Length: 14\r\n\r\n{\"do\":\"reset\".";
 
-// The bytes of a body and of a head, at most.
-const MOST: u64 = 16_777_216 + 8_192;
+// The total size of the largest head and the largest body.
+const MOST: usize = 16_777_216 + 8_192;
 
-// Serves one connection.
-fn serve_once<R: Net + Clock>(alloc: Global, rt: &R) -> Result<(), Fail> {
-    let mut store = ListStore::new(alloc);
-    let mut connections = Loopback::listen(rt, 1)?;
-    serve_all(alloc, &mut store, &mut connections, 1)?;
-    Ok(())
-}
-
-// Serves one connection, whose reply begins so, and answers how many bytes were read behind its
-// message.
-fn drained(rt: &impl Abort, alloc: Global, floor: &Floor, start: &str) -> Result<u64, Fail> {
-    let behind = floor.behind.get();
-    serve_once(alloc, &Fake(floor))?;
-    let reply = floor.take_written();
-    assert!(rt; reply.starts_with(start.as_bytes()), "{start}");
-    assert_eq!(rt; reply.is_empty(), start.is_empty());
-    // The reply is whole, and the peer is shown so, before more is read.
-    assert_eq!(rt; floor.ended.get(), Some((Shutdown::Write, behind)));
-    Ok(behind.saturating_sub(floor.behind.get()))
-}
-
-#[test]
-fn what_comes_behind_an_early_refusal_is_dropped(rt: HostRuntime) -> Result<(), Fail> {
-    let early: [(&'static [u8], &str); 3] = [
-        (TOO_LARGE, "HTTP/1.1 413 "),
-        (&ENDLESS, "HTTP/1.1 431 "),
-        (CHUNKED, "HTTP/1.1 400 "),
-    ];
-    for (message, start) in early {
-        for (behind, read) in [
-            (0, 0),
-            (1, 1),
-            (100_000, 100_000),
-            (MOST, MOST),
-            (MOST + 9000, MOST),
-        ] {
-            let floor = Floor::new(rt.alloc(), message, behind);
-            assert_eq!(rt; drained(&rt, rt.alloc(), &floor, start)?, read, "{start}");
-        }
+// Serves `turns` connections: reads a piece of each message, and writes `reply`.
+fn serve<'a, 'c>(port: &mut Loopback<'a, Hall<'c>>, reply: &str, turns: u64) -> Result<(), Fail> {
+    let mut buf = [0; 8192];
+    for _ in 0..turns {
+        let (mut message, mut replies) = port.next()?;
+        message.bring(&mut buf);
+        replies.write(reply.as_bytes())?;
+        port.back(message, replies, SERVED);
     }
     Ok(())
 }
 
+// Serves the first peer, whose message has `size` bytes, with the response `start`. Then serves the
+// second peer, which connects after 4 s. Returns the number of bytes that were read from the first
+// peer after its message.
+fn drained(
+    rt: &impl Abort,
+    alloc: Global,
+    peers: &'static [Peer],
+    size: usize,
+    start: &str,
+) -> Result<usize, Fail> {
+    let crowd = Crowd::new(alloc, peers);
+    let hall = Hall(&crowd);
+    let mut port = Loopback::listen(&hall, 1)?;
+    serve(&mut port, start, 1)?;
+    assert_eq!(rt; crowd.take_written().as_slice(), start.as_bytes());
+    // The peer sees the end of its response before more bytes are read.
+    assert_eq!(rt; crowd.find_end(0, Shutdown::Write), Some(crowd.now()));
+    assert_eq!(rt; crowd.count_read(0), size);
+    serve(&mut port, start, 1)?;
+    assert_eq!(rt; crowd.now(), 4000);
+    Ok(crowd.count_read(0).saturating_sub(size))
+}
+
+// A peer that sends the given pieces, and a second peer that connects at the given time.
+macro_rules! before_another {
+    ($pieces:expr, $at:expr) => {
+        &[
+            Peer {
+                times: 1,
+                at: 0,
+                pieces: $pieces,
+            },
+            Peer {
+                times: 1,
+                at: $at,
+                pieces: &[(0, Piece::Text(b"GET / HTTP/1.1\r\n\r\n"))],
+            },
+        ]
+    };
+}
+
+// A peer that sends a message, and `count` bytes one second later. A second peer connects after 4
+// s.
+macro_rules! followed {
+    ($message:expr, $count:expr) => {
+        before_another!(&[(0, Piece::Text($message)), (1000, Piece::Many($count))], 4000)
+    };
+}
+
 #[test]
-fn nothing_is_read_behind_another_reply(rt: HostRuntime) -> Result<(), Fail> {
-    const WHOLE: &[Step] = &[];
-    let others: [(&'static [u8], &'static [Step], &str); 5] = [
-        (RESET, WHOLE, "HTTP/1.1 200 "),
-        (b"GET /batch/ HTTP/1.1\r\n\r\n", WHOLE, "HTTP/1.1 404 "),
-        (b"DELETE /batch/B9 HTTP/1.1\r\n\r\n", WHOLE, "HTTP/1.1 405 "),
-        (b"GET /batch/B9 HTTP/1.1\r\n\r\n", WHOLE, "HTTP/1.1 409 "),
-        // A message that isn't whole gets no reply.
-        (b"GET /batch/B9 HTTP/1.1\r\n", &[Step::Bytes(512), CUT], ""),
+fn what_follows_an_early_reply_is_dropped(rt: HostRuntime) -> Result<(), Fail> {
+    const ALL: &[(&[Peer], usize, &str, usize)] = &[
+        (followed!(TOO_LARGE, 1), TOO_LARGE.len(), "HTTP/1.1 413 ", 1),
+        (
+            followed!(TOO_LARGE, MOST),
+            TOO_LARGE.len(),
+            "HTTP/1.1 413 ",
+            MOST,
+        ),
+        (
+            followed!(TOO_LARGE, MOST + 9000),
+            TOO_LARGE.len(),
+            "HTTP/1.1 413 ",
+            MOST,
+        ),
+        (followed!(ENDLESS, 100_000), 8192, "HTTP/1.1 431 ", 100_000),
+        (
+            followed!(CHUNKED, 100_000),
+            CHUNKED.len(),
+            "HTTP/1.1 400 ",
+            100_000,
+        ),
     ];
-    for (message, reads, start) in others {
-        let floor = Floor::new(rt.alloc(), message, 100_000);
-        floor.reads.set(reads);
-        assert_eq!(rt; drained(&rt, rt.alloc(), &floor, start)?, 0, "{start}");
+    for (peers, size, start, read) in ALL {
+        assert_eq!(rt;
+            drained(&rt, rt.alloc(), *peers, *size, *start)?,
+            *read,
+            "{start}"
+        );
     }
     Ok(())
 }
 
-// The first read brings the message. How the others go, how many bytes they bring, how many reads
-// are not tried any more, and after how many milliseconds it ends.
+// Nothing is read after a message that was read completely, even if its response has status 400.
 #[test]
-fn a_drain_ends_with_the_time_of_the_message(rt: HostRuntime) -> Result<(), Fail> {
-    const MESSAGE: Step = Step::Late(3000, 8192);
-    const TEN: Step = Step::Bytes(10);
-    const SLOW: Step = Step::Late(3000, 1);
-    const SILENT: Step = Step::Fails(5000, ErrorKind::WouldBlock);
-    const SIGNAL: Step = Step::Fails(6000, ErrorKind::Interrupted);
-    let ways: [(&'static [Step], u64, usize, u128); 4] = [
-        (&[MESSAGE, SLOW, SLOW, SLOW, SLOW, SLOW], 3, 2, 12_000),
-        (&[MESSAGE, SLOW, SILENT, SLOW], 1, 1, 11_000),
-        (&[MESSAGE, TEN, CUT, SLOW], 10, 1, 3000),
-        (&[MESSAGE, TEN, SIGNAL], 9000, 0, 9000),
+fn nothing_is_read_after_a_complete_message(rt: HostRuntime) -> Result<(), Fail> {
+    const ALL: &[(&[Peer], usize, &str)] = &[
+        (followed!(RESET, 10), RESET.len(), "HTTP/1.1 200 "),
+        (followed!(NO_JSON, 10), NO_JSON.len(), "HTTP/1.1 400 "),
+        (
+            followed!(b"GET /batch/a.b HTTP/1.1\r\n\r\n", 10),
+            27,
+            "HTTP/1.1 400 ",
+        ),
+        (
+            followed!(b"GET /batch/ HTTP/1.1\r\n\r\n", 10),
+            24,
+            "HTTP/1.1 404 ",
+        ),
+        (
+            followed!(b"PUT /batch/B9 HTTP/1.1\r\n\r\n", 10),
+            26,
+            "HTTP/1.1 405 ",
+        ),
+        (
+            followed!(b"GET /batch/B9 HTTP/1.1\r\n\r\n", 10),
+            26,
+            "HTTP/1.1 409 ",
+        ),
     ];
-    for (reads, read, untried, passed) in ways {
-        let floor = Floor::new(rt.alloc(), TOO_LARGE, 9000);
-        floor.reads.set(reads);
-        assert_eq!(rt; drained(&rt, rt.alloc(), &floor, "HTTP/1.1 413 ")?, read);
-        assert_eq!(rt; floor.reads.get().len(), untried);
-        assert_eq!(rt; floor.passed(), passed);
+    for (peers, size, start) in ALL {
+        assert_eq!(rt;
+            drained(&rt, rt.alloc(), *peers, *size, *start)?,
+            0,
+            "{start}"
+        );
     }
     Ok(())
 }
 
-// Where a socket takes a reply byte by byte, its beginning is seen all the same.
+// A drain ends 10 s after the response, after 5 s without a byte, or when the connection ends.
 #[test]
-fn the_beginning_of_a_reply_is_kept(rt: HostRuntime) -> Result<(), Fail> {
-    for (message, start, read) in [
-        (TOO_LARGE, "HTTP/1.1 413 ", 9000),
-        (RESET, "HTTP/1.1 200 ", 0),
-    ] {
-        let floor = Floor::new(rt.alloc(), message, 9000);
-        floor.writes.set(&[Step::Bytes(1); 15]);
-        assert_eq!(rt; drained(&rt, rt.alloc(), &floor, start)?, read, "{start}");
+fn a_drain_ends_in_time(rt: HostRuntime) -> Result<(), Fail> {
+    const SLOW: &[(u64, Piece)] = &[
+        (0, Piece::Text(CHUNKED)),
+        (4000, Piece::Many(10)),
+        (8000, Piece::Many(10)),
+        (9900, Piece::Many(10)),
+        (10_100, Piece::Many(10)),
+    ];
+    const STOPS: &[(u64, Piece)] = &[
+        (0, Piece::Text(CHUNKED)),
+        (1000, Piece::Many(10)),
+        (6100, Piece::Many(10)),
+    ];
+    const ENDS: &[(u64, Piece)] = &[
+        (0, Piece::Text(CHUNKED)),
+        (1000, Piece::Many(10)),
+        (1100, Piece::End),
+    ];
+    const ALL: &[(&[Peer], usize)] = &[
+        (before_another!(SLOW, 15_000), 30),
+        (before_another!(STOPS, 15_000), 10),
+        (before_another!(ENDS, 15_000), 10),
+    ];
+    for (peers, read) in ALL {
+        let crowd = Crowd::new(rt.alloc(), *peers);
+        let hall = Hall(&crowd);
+        let mut port = Loopback::listen(&hall, 1)?;
+        serve(&mut port, "HTTP/1.1 400 ", 2)?;
+        assert_eq!(rt; crowd.now(), 15_000);
+        assert_eq!(rt; crowd.count_read(0), CHUNKED.len().saturating_add(*read));
+    }
+    Ok(())
+}
+
+// After the last turn the drains get at most one second, or less if they end earlier.
+#[test]
+fn the_last_drains_get_a_second(rt: HostRuntime) -> Result<(), Fail> {
+    const COMPLETE: &[(u64, Piece)] = &[(0, Piece::Text(RESET))];
+    const ENDS: &[(u64, Piece)] = &[
+        (0, Piece::Text(CHUNKED)),
+        (600, Piece::Many(10)),
+        (700, Piece::End),
+    ];
+    const STAYS: &[(u64, Piece)] = &[
+        (0, Piece::Text(CHUNKED)),
+        (600, Piece::Many(10)),
+        (1100, Piece::Many(10)),
+    ];
+    const ALL: &[(&[Peer], usize, u64)] = &[
+        (before_another!(COMPLETE, 60_000), RESET.len(), 0),
+        (before_another!(ENDS, 60_000), CHUNKED.len() + 10, 750),
+        (before_another!(STAYS, 60_000), CHUNKED.len() + 10, 1000),
+    ];
+    for (peers, read, millis) in ALL {
+        let crowd = Crowd::new(rt.alloc(), *peers);
+        let hall = Hall(&crowd);
+        let mut port = Loopback::listen(&hall, 1)?;
+        port.end_after(1);
+        serve(&mut port, "HTTP/1.1 400 ", 1)?;
+        assert_eq!(rt; crowd.now(), *millis);
+        assert_eq!(rt; crowd.count_read(0), *read);
     }
     Ok(())
 }

@@ -1,58 +1,52 @@
-//! Sockets in memory, on a machine whose clock the tests move. They keep what is asked of them.
+//! A system with one stream in memory. The tests advance its clock, and it records the calls.
 ghost use Rattle.std.specs.Prelude.{◌≤◌, length};
 
 use std::alloc::Global;
 use std::cell::Cell;
 use std::io::{self, ErrorKind, Read, Write};
-use std::net::{Ipv4Addr, Net, OpenListener, OpenStream, Shutdown, SocketAddr, SocketAddrV4};
+use std::net::{Ipv4Addr, Net, OpenListener, OpenStream, SocketAddr, SocketAddrV4};
 use std::os::fd::{AsRawFd, RawFd};
 use std::time::{Clock, Duration};
 
-/// What a read or a write comes to.
+/// The result of a read or a write.
 #[derive(Clone, Copy)]
 pub(crate) enum Step {
-    /// So many bytes, at most.
+    /// At most the given number of bytes.
     Bytes(usize),
-    /// So many bytes, at most, after so many milliseconds.
+    /// At most the given number of bytes, after the given number of milliseconds.
     Late(u64, usize),
-    /// Nothing, after so many milliseconds, for this reason.
+    /// An error of the given kind, after the given number of milliseconds.
     Fails(u64, ErrorKind),
 }
 
-/// A machine with one listener and one stream: what its clock says, what its peer sends, how its
-/// next calls go, and what was asked of it.
+/// The state of a system with one stream: the time, the bytes of the peer, the results of the next
+/// calls, and a record of the calls.
 #[derive(Drop)]
 pub(crate) struct Floor {
     alloc: Global,
     now: Cell<Duration>,
     text: Cell<&'static [u8]>,
-    /// How many bytes still come behind the text.
+    /// The number of meaningless bytes that the peer still sends after the text.
     pub(crate) behind: Cell<u64>,
-    /// How the next reads go. One behind these brings all that it can.
+    /// The results of the next reads. Every later read returns as many bytes as it can.
     pub(crate) reads: Cell<&'static [Step]>,
-    /// How the next writes go. One behind these takes all.
+    /// The results of the next writes. Every later write accepts all bytes.
     pub(crate) writes: Cell<&'static [Step]>,
-    /// How often a connection still can't be had, and why.
+    /// The number of the next connection attempts that fail, and their error.
     pub(crate) faults: Cell<(u32, ErrorKind)>,
-    /// Where it was asked to listen last.
-    pub(crate) bound: Cell<Option<SocketAddr>>,
-    /// How often it was asked to listen.
-    pub(crate) binds: Cell<u32>,
-    /// Why it doesn't listen, if it doesn't.
-    pub(crate) unbound: Cell<Option<ErrorKind>>,
-    /// What was connected to, and the wait for that.
+    /// The address and the time limit of the last connection attempt.
     pub(crate) connected: Cell<Option<(SocketAddr, Duration)>>,
-    /// The wait of a read that was set last.
+    /// The time that it takes to connect, in milliseconds.
+    pub(crate) connect_takes: Cell<u64>,
+    /// The time limit of reads that was set last.
     pub(crate) read_wait: Cell<Option<Duration>>,
-    /// The wait of a write that was set last.
+    /// The time limit of writes that was set last.
     pub(crate) write_wait: Cell<Option<Duration>>,
-    /// Which half was ended, and how many bytes still came then.
-    pub(crate) ended: Cell<Option<(Shutdown, u64)>>,
     written: Cell<Option<Vec<u8>>>,
 }
 
 impl Floor {
-    /// A machine whose peer sends a text, and so many bytes behind it.
+    /// Creates a system whose peer sends `text`, followed by `behind` meaningless bytes.
     pub(crate) fn new(alloc: Global, text: &'static [u8], behind: u64) -> Floor {
         Floor {
             alloc,
@@ -62,23 +56,20 @@ impl Floor {
             reads: Cell::new(&[]),
             writes: Cell::new(&[]),
             faults: Cell::new((0, ErrorKind::Other)),
-            bound: Cell::new(None),
-            binds: Cell::new(0),
-            unbound: Cell::new(None),
             connected: Cell::new(None),
+            connect_takes: Cell::new(0),
             read_wait: Cell::new(None),
             write_wait: Cell::new(None),
-            ended: Cell::new(None),
             written: Cell::new(None),
         }
     }
 
-    /// So many milliseconds go by.
+    /// Advances the time by `millis` milliseconds.
     pub(crate) fn pass(&self, millis: u64) {
         self.rest(Duration::from_millis(millis));
     }
 
-    /// How many milliseconds went by since the beginning.
+    /// Returns the time since the start, in milliseconds.
     pub(crate) fn passed(&self) -> u128 {
         self.now
             .get()
@@ -86,7 +77,7 @@ impl Floor {
             .as_millis()
     }
 
-    /// What was written since it was asked for last.
+    /// Returns the bytes that were written since the last call.
     pub(crate) fn take_written(&self) -> Vec<u8> {
         self.written.take().unwrap_or(Vec::new(self.alloc))
     }
@@ -95,7 +86,7 @@ impl Floor {
         self.now.set(self.now.get().saturating_add(wait));
     }
 
-    // Takes the next of these steps, and answers how many bytes it lets through, at most.
+    // Performs the next of `steps`, and returns the maximum number of bytes that it allows.
     fn take_step(&self, steps: &Cell<&'static [Step]>) -> io::Result<usize> {
         let Some((step, rest)) = steps.get().split_first() else {
             return Ok(usize::MAX);
@@ -114,7 +105,8 @@ impl Floor {
         }
     }
 
-    // Brings of the text, or of the bytes behind it, so many at most.
+    // Reads at most `most` bytes of the text, or of the meaningless bytes after it, which leave
+    // `buf` unchanged.
     fn bring(&self, buf: &mut [u8], most: usize) -> usize
         ensures { result ≤ length buf.new }
     {
@@ -132,7 +124,7 @@ impl Floor {
         front.len()
     }
 
-    // Fails while a connection can't be had.
+    // Fails if this connection attempt is one of those that fail.
     fn find(&self) -> io::Result<()> {
         let (left, kind) = self.faults.get();
         self.faults.set((left.saturating_sub(1), kind));
@@ -143,16 +135,16 @@ impl Floor {
     }
 }
 
-/// The machine that a floor stands on, its listener, and its stream.
+/// The system, its listener and its stream.
 #[derive(Clone, Copy)]
 pub(crate) struct Fake<'f>(pub(crate) &'f Floor);
 
-/// A port of 127.0.0.1.
+/// Returns the address of the port `port` of 127.0.0.1.
 pub(crate) fn local(port: u16) -> SocketAddr {
     SocketAddr::V4(SocketAddrV4::new(Ipv4Addr::new(127, 0, 0, 1), port))
 }
 
-/// A wait in milliseconds.
+/// Returns `wait` in milliseconds.
 pub(crate) fn millis(wait: Option<Duration>) -> Option<u128> {
     wait.map(|wait| wait.as_millis())
 }
@@ -182,16 +174,12 @@ impl<'f> Net for Fake<'f> {
 
     type Listener = Fake<'f>;
 
-    fn bind(&self, addr: SocketAddr) -> io::Result<Fake<'f>> {
-        self.0.bound.set(Some(addr));
-        self.0.binds.set(self.0.binds.get().saturating_add(1));
-        match self.0.unbound.get() {
-            Some(kind) => Err(kind.into()),
-            None => Ok(*self),
-        }
+    // Servers are tested with a `Crowd`.
+    fn bind(&self, _addr: SocketAddr) -> io::Result<Fake<'f>> {
+        Err(ErrorKind::Unsupported.into())
     }
 
-    // It waits for ever.
+    // It has no time limit, so it must not be called.
     fn connect(&self, _addr: SocketAddr) -> io::Result<Fake<'f>> {
         Err(ErrorKind::Unsupported.into())
     }
@@ -199,6 +187,7 @@ impl<'f> Net for Fake<'f> {
     fn connect_timeout(&self, addr: SocketAddr, timeout: Duration) -> io::Result<Fake<'f>> {
         self.0.connected.set(Some((addr, timeout)));
         self.0.find()?;
+        self.0.pass(self.0.connect_takes.get());
         Ok(*self)
     }
 }
@@ -207,17 +196,11 @@ impl<'f> OpenListener for Fake<'f> {
     type Stream = Fake<'f>;
 
     fn accept(&self) -> io::Result<(Fake<'f>, SocketAddr)> {
-        self.0.find()?;
-        Ok((*self, local(1)))
+        Err(ErrorKind::Unsupported.into())
     }
 }
 
 impl OpenStream for Fake<'_> {
-    fn shutdown(&self, how: Shutdown) -> io::Result<()> {
-        self.0.ended.set(Some((how, self.0.behind.get())));
-        Ok(())
-    }
-
     fn set_read_timeout(&self, dur: Option<Duration>) -> io::Result<()> {
         self.0.read_wait.set(dur);
         Ok(())
@@ -226,10 +209,6 @@ impl OpenStream for Fake<'_> {
     fn set_write_timeout(&self, dur: Option<Duration>) -> io::Result<()> {
         self.0.write_wait.set(dur);
         Ok(())
-    }
-
-    fn try_clone(&self) -> io::Result<Self> {
-        Ok(*self)
     }
 }
 

@@ -1,11 +1,17 @@
-//! Tests of what is done with sockets: addresses, waits, pauses, what is read and written, and what
-//! a signal interrupts. The sockets are in memory, and the tests move the clock.
+//! Tests of the use of sockets: addresses, time limits, pauses, the order of connections, limits,
+//! drains and signals. The sockets are in memory, and the tests advance the clock.
 #![tactic(auto)]
 
+#[cfg(test)]
+mod crowd;
 #[cfg(test)]
 mod drains;
 #[cfg(test)]
 mod fake;
+#[cfg(test)]
+mod limits;
+#[cfg(test)]
+mod lost;
 #[cfg(test)]
 mod peers;
 #[cfg(test)]

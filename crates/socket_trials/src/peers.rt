@@ -1,27 +1,44 @@
-//! Where a server listens, how long a peer holds it, and how often a connection is asked for.
-use crate::fake::{Fake, Floor, Step, local, millis};
+//! Tests of a server's connections: its port, the order, the time limits, and errors of `accept`.
+use crate::crowd::{Crowd, Hall, Peer, Piece, Reports};
+use crate::fake::{local, millis};
 use http_messages::ByteSource;
 use loopback::Loopback;
-use server::{Connections, NextFault};
+use server::{Connections, End, NextFault, Served};
 use std::io::{ErrorKind, Write};
 use std::test::Fail;
 
-// A server that listens on every address is open to others: there is no password.
+const GET: &[u8] = b"GET /1 HTTP/1.1\r\n\r\n";
+
+const ONE: &[(u64, Piece)] = &[(0, Piece::Text(GET))];
+
+pub(crate) const SERVED: Served = Served {
+    end: End::Answered,
+    decided: false,
+};
+
+// Serves the next connection: reads its first bytes into `buf`, and returns their number.
+fn serve<'a, 'c>(port: &mut Loopback<'a, Hall<'c>>, buf: &mut [u8; 64]) -> Result<usize, Fail> {
+    let (mut message, reply) = port.next()?;
+    let count = message.bring(buf);
+    port.back(message, reply, SERVED);
+    Ok(count)
+}
+
+// The server has no passwords, so other hosts must not be able to connect to it.
 #[test]
 fn only_this_machine_is_listened_to(rt: HostRuntime) -> Result<(), Fail> {
     for port in [8807, 0] {
-        let floor = Floor::new(rt.alloc(), b"", 0);
-        let fake = Fake(&floor);
-        let listening = Loopback::listen(&fake, port)?;
+        let crowd = Crowd::new(rt.alloc(), &[]);
+        let hall = Hall(&crowd);
+        let listening = Loopback::listen(&hall, port)?;
         assert_eq!(rt; listening.port(), port);
-        assert_eq!(rt; floor.bound.get(), Some(local(port)));
-        assert_eq!(rt; floor.binds.get(), 1);
+        assert_eq!(rt; crowd.bound.get(), (Some(local(port)), 1));
     }
     Ok(())
 }
 
-// A server that took another port instead would wait there for ever, and its machines would talk to
-// whoever has the wanted one.
+// The server must not try another port instead. It would wait there forever, and its drivers would
+// send their requests to the process that listens on `port`.
 #[test]
 fn a_port_that_is_taken_is_asked_for_once(rt: HostRuntime) -> Result<(), Fail> {
     for kind in [
@@ -30,97 +47,299 @@ fn a_port_that_is_taken_is_asked_for_once(rt: HostRuntime) -> Result<(), Fail> {
         ErrorKind::AddrNotAvailable,
         ErrorKind::OutOfMemory,
     ] {
-        let floor = Floor::new(rt.alloc(), b"", 0);
-        floor.unbound.set(Some(kind));
-        let refused = match Loopback::listen(&Fake(&floor), 8807) {
+        let crowd = Crowd::new(rt.alloc(), &[]);
+        crowd.taken.set(Some(kind));
+        let hall = Hall(&crowd);
+        let refused = match Loopback::listen(&hall, 8807) {
             Ok(_listening) => None,
             Err(error) => Some(error.kind()),
         };
         assert_eq!(rt; refused, Some(kind));
-        assert_eq!(rt; floor.bound.get(), Some(local(8807)));
-        assert_eq!(rt; floor.binds.get(), 1);
+        assert_eq!(rt; crowd.bound.get(), (Some(local(8807)), 1));
     }
     Ok(())
 }
 
+// A message that is complete or cut off is served before a message that is still being received.
+// The latter is served when it is complete or too late. A silent peer uses no turn.
 #[test]
-fn a_peer_holds_the_server_for_a_while(rt: HostRuntime) -> Result<(), Fail> {
-    let floor = Floor::new(rt.alloc(), b"", 100);
-    let fake = Fake(&floor);
-    let (mut message, mut reply) = Loopback::listen(&fake, 1)?.next()?;
-    // After so long it brings so many bytes, and waited at most so long for them.
-    for (after, brought, wait) in [
-        (0, 2, 5000),
-        (4000, 2, 5000),
-        (3000, 2, 3000),
-        (3000, 0, 3000),
-    ] {
-        floor.pass(after);
-        assert_eq!(rt; message.bring(&mut [0; 2]), brought, "{wait}");
-        assert_eq!(rt; millis(floor.read_wait.get()), Some(wait));
-    }
-    assert_eq!(rt; floor.write_wait.get(), None);
-    for (after, is_taken, wait) in [(0, true, 5000), (8000, true, 2000), (2000, false, 2000)] {
-        floor.pass(after);
-        assert_eq!(rt; reply.write(&[0; 2]).is_ok(), is_taken, "{wait}");
-        assert_eq!(rt; millis(floor.write_wait.get()), Some(wait));
-    }
-    Ok(())
-}
-
-// A signal, as one that stops the process for a while, costs no more than its time.
-#[test]
-fn what_a_signal_interrupts_goes_on(rt: HostRuntime) -> Result<(), Fail> {
-    const SIGNALS: &[Step] = &[
-        Step::Fails(1000, ErrorKind::Interrupted),
-        Step::Fails(6000, ErrorKind::Interrupted),
+fn complete_messages_come_before_slow_ones(rt: HostRuntime) -> Result<(), Fail> {
+    const SILENT: &[(u64, Piece)] = &[];
+    const DRIPS: &[(u64, Piece)] = &[
+        (1000, Piece::Text(b"a")),
+        (4000, Piece::Text(b"b")),
+        (8000, Piece::Text(b"c")),
+        (12_000, Piece::Text(b"\r\n\r\n")),
     ];
-    let floor = Floor::new(rt.alloc(), b"ab", 0);
-    let fake = Fake(&floor);
-    let (mut message, mut reply) = Loopback::listen(&fake, 1)?.next()?;
-    floor.reads.set(SIGNALS);
-    assert_eq!(rt; message.bring(&mut [0; 2]), 2);
-    assert_eq!(rt; millis(floor.read_wait.get()), Some(3000));
-    floor.writes.set(SIGNALS);
-    assert_eq!(rt; reply.write(b"cd").ok(), Some(2));
-    assert_eq!(rt; millis(floor.write_wait.get()), Some(3000));
-    assert_eq!(rt; floor.take_written().as_slice(), b"cd".as_slice());
+    const TWO: &[(u64, Piece)] = &[
+        (0, Piece::Text(b"GET /2 HT")),
+        (500, Piece::Text(b"TP/1.1\r\n\r\n")),
+    ];
+    const ENDS: &[(u64, Piece)] = &[(0, Piece::Text(b"GET")), (600, Piece::End)];
+    const STOPS: &[(u64, Piece)] = &[(0, Piece::Text(b"PUT"))];
+    const FAILS: &[(u64, Piece)] = &[
+        (0, Piece::Fails(ErrorKind::Interrupted)),
+        (900, Piece::Fails(ErrorKind::ConnectionReset)),
+    ];
+    const PEERS: &[Peer] = &[
+        Peer {
+            times: 1,
+            at: 0,
+            pieces: SILENT,
+        },
+        Peer {
+            times: 1,
+            at: 0,
+            pieces: DRIPS,
+        },
+        Peer {
+            times: 1,
+            at: 0,
+            pieces: TWO,
+        },
+        Peer {
+            times: 1,
+            at: 0,
+            pieces: ENDS,
+        },
+        Peer {
+            times: 1,
+            at: 0,
+            pieces: STOPS,
+        },
+        Peer {
+            times: 1,
+            at: 0,
+            pieces: FAILS,
+        },
+        Peer {
+            times: 1,
+            at: 0,
+            pieces: ONE,
+        },
+    ];
+    let wanted: [(u64, &[u8]); 6] = [
+        (0, GET),
+        (500, b"GET /2 HTTP/1.1\r\n\r\n"),
+        (750, b"GET"),
+        (1000, b""),
+        (5000, b"PUT"),
+        (10_000, b"abc"),
+    ];
+    for reports in [Reports::All, Reports::Nothing, Reports::Odd] {
+        let crowd = Crowd::new(rt.alloc(), PEERS);
+        crowd.reports.set(reports);
+        let hall = Hall(&crowd);
+        let mut port = Loopback::listen(&hall, 1)?;
+        for (at, bytes) in wanted {
+            let mut buf = [0; 64];
+            let count = serve(&mut port, &mut buf)?;
+            assert_eq!(rt; buf.get(..count), Some(bytes));
+            assert_eq!(rt; crowd.now(), at);
+        }
+    }
     Ok(())
 }
 
+// The first two messages are complete when the server reads them next. The connection that was
+// accepted first is served first.
 #[test]
-fn signals_give_no_more_time(rt: HostRuntime) -> Result<(), Fail> {
-    const SIGNALS: &[Step] = &[Step::Fails(4000, ErrorKind::Interrupted); 4];
-    let floor = Floor::new(rt.alloc(), b"ab", 0);
-    let fake = Fake(&floor);
-    let (mut message, mut reply) = Loopback::listen(&fake, 1)?.next()?;
-    floor.reads.set(SIGNALS);
-    assert_eq!(rt; message.bring(&mut [0; 2]), 0);
-    assert_eq!(rt; floor.reads.get().len(), 1);
-    floor.writes.set(SIGNALS);
-    assert!(rt; reply.write(b"cd").is_err());
-    assert_eq!(rt; floor.writes.get().len(), 1);
+fn complete_messages_come_as_they_were_accepted(rt: HostRuntime) -> Result<(), Fail> {
+    const PEERS: &[Peer] = &[
+        Peer {
+            times: 1,
+            at: 0,
+            pieces: &[(190, Piece::Text(b"GET /b HTTP/1.1\r\n\r\n"))],
+        },
+        Peer {
+            times: 1,
+            at: 0,
+            pieces: &[(110, Piece::Text(b"GET /a HTTP/1.1\r\n\r\n"))],
+        },
+        Peer {
+            times: 1,
+            at: 130,
+            pieces: ONE,
+        },
+    ];
+    let crowd = Crowd::new(rt.alloc(), PEERS);
+    let hall = Hall(&crowd);
+    let mut port = Loopback::listen(&hall, 1)?;
+    let wanted: [&[u8]; 3] = [b"GET /b", b"GET /a", b"GET /1"];
+    for begins in wanted {
+        let mut buf = [0; 64];
+        serve(&mut port, &mut buf)?;
+        assert_eq!(rt; buf.get(..6), Some(begins));
+        assert_eq!(rt; crowd.now(), 250);
+    }
+    Ok(())
+}
+
+// No message is late because another request took long. The bytes that arrived meanwhile are read
+// before the time limit is checked.
+#[test]
+fn a_long_request_costs_no_peer_its_turn(rt: HostRuntime) -> Result<(), Fail> {
+    const LATER: &[(u64, Piece)] = &[
+        (0, Piece::Text(b"GET /2 HT")),
+        (4000, Piece::Text(b"TP/1.1\r\n\r\n")),
+    ];
+    const PEERS: &[Peer] = &[
+        Peer {
+            times: 1,
+            at: 0,
+            pieces: LATER,
+        },
+        Peer {
+            times: 1,
+            at: 0,
+            pieces: ONE,
+        },
+        Peer {
+            times: 1,
+            at: 7000,
+            pieces: ONE,
+        },
+    ];
+    for reports in [Reports::All, Reports::Nothing] {
+        let crowd = Crowd::new(rt.alloc(), PEERS);
+        crowd.reports.set(reports);
+        let hall = Hall(&crowd);
+        let mut port = Loopback::listen(&hall, 1)?;
+        for size in [GET.len(), GET.len(), GET.len()] {
+            let mut buf = [0; 64];
+            assert_eq!(rt; serve(&mut port, &mut buf)?, size);
+            crowd.pass(20_000);
+        }
+    }
+    Ok(())
+}
+
+// The time limit of a message starts when its connection is accepted.
+#[test]
+fn a_late_connection_has_its_whole_time(rt: HostRuntime) -> Result<(), Fail> {
+    const PEERS: &[Peer] = &[Peer {
+        times: 1,
+        at: 0,
+        pieces: &[
+            (0, Piece::Text(b"GET /2 HT")),
+            (24_900, Piece::Text(b"TP/1.1\r\n\r\n")),
+        ],
+    }];
+    let crowd = Crowd::new(rt.alloc(), PEERS);
+    crowd.accept_takes.set(20_000);
+    let hall = Hall(&crowd);
+    let mut port = Loopback::listen(&hall, 1)?;
+    let mut buf = [0; 64];
+    assert_eq!(rt; serve(&mut port, &mut buf)?, GET.len());
+    assert_eq!(rt; crowd.now(), 25_000);
+    Ok(())
+}
+
+// A reader returns the received bytes, in pieces of any size.
+#[test]
+fn bytes_come_as_they_were_sent(rt: HostRuntime) -> Result<(), Fail> {
+    const PEERS: &[Peer] = &[Peer {
+        times: 1,
+        at: 0,
+        pieces: &[
+            (
+                0,
+                Piece::Text(b"POST / HTTP/1.1\r\nContent-Length: 20000\r\n\r\n"),
+            ),
+            (300, Piece::Many(10_000)),
+            (600, Piece::Many(9997)),
+            (900, Piece::Text(b"end of another")),
+        ],
+    }];
+    for size in [1, 7, 8192, 60_000] {
+        let crowd = Crowd::new(rt.alloc(), PEERS);
+        let hall = Hall(&crowd);
+        let mut port = Loopback::listen(&hall, 1)?;
+        let (mut message, _reply) = port.next()?;
+        let mut buf = vec![in rt.alloc(); 0; size]?;
+        let mut bytes = Vec::new(rt.alloc());
+        for _ in 0..30_000 {
+            if buf.is_empty() {
+                return Err(Fail::new("no buffer"));
+            }
+            let count = message.bring(&mut buf);
+            bytes.extend_from_slice(buf.get(..count).unwrap_or(&[]))?;
+        }
+        let bytes = bytes.as_slice();
+        assert_eq!(rt; crowd.now(), 1000);
+        // Only the message is read. Its head has 42 bytes.
+        assert_eq!(rt; bytes.len(), 20_042);
+        assert_eq!(rt; crowd.count_read(0), 20_042);
+        assert!(rt; bytes.starts_with(b"POST / HTTP/1.1\r\n"));
+        assert!(rt; bytes.ends_with(b"end"));
+    }
+    Ok(())
+}
+
+// The 10 s of a response start with its first write, and aren't restarted.
+#[test]
+fn a_reply_has_its_time_once(rt: HostRuntime) -> Result<(), Fail> {
+    const PEERS: &[Peer] = &[Peer {
+        times: 1,
+        at: 0,
+        pieces: ONE,
+    }];
+    let crowd = Crowd::new(rt.alloc(), PEERS);
+    let hall = Hall(&crowd);
+    let (_message, mut reply) = Loopback::listen(&hall, 1)?.next()?;
+    crowd.pass(30_000);
+    for (after, is_taken, wait) in [(0, true, 5000), (8000, true, 2000), (2000, false, 2000)] {
+        crowd.pass(after);
+        assert_eq!(rt; reply.write(&[0; 2]).is_ok(), is_taken, "{wait}");
+        assert_eq!(rt; millis(crowd.write_wait.get()), Some(wait));
+    }
+    Ok(())
+}
+
+// A signal doesn't end a response, even if it stops the process for a while. The response fails
+// only if its time is over.
+#[test]
+fn a_signal_ends_no_reply(rt: HostRuntime) -> Result<(), Fail> {
+    const PEERS: &[Peer] = &[Peer {
+        times: 1,
+        at: 0,
+        pieces: ONE,
+    }];
+    for (signals, millis, is_taken) in [(2, 4900, true), (4, 4000, false)] {
+        let crowd = Crowd::new(rt.alloc(), PEERS);
+        let hall = Hall(&crowd);
+        let (_message, mut reply) = Loopback::listen(&hall, 1)?.next()?;
+        crowd
+            .write_faults
+            .set((signals, millis, ErrorKind::Interrupted));
+        assert_eq!(rt; reply.write(b"cd").is_ok(), is_taken);
+    }
     Ok(())
 }
 
 #[test]
 fn a_connection_is_asked_for_fifty_times(rt: HostRuntime) -> Result<(), Fail> {
+    const PEERS: &[Peer] = &[Peer {
+        times: 1,
+        at: 0,
+        pieces: ONE,
+    }];
     let often = [
         (49, ErrorKind::Other, None),
         (50, ErrorKind::Other, Some(NextFault::Device)),
         (50, ErrorKind::OutOfMemory, Some(NextFault::Memory)),
     ];
     for (faults, kind, fault) in often {
-        let floor = Floor::new(rt.alloc(), b"", 0);
-        floor.faults.set((faults, kind));
-        let fake = Fake(&floor);
-        let refused = match Loopback::listen(&fake, 1)?.next() {
+        let crowd = Crowd::new(rt.alloc(), PEERS);
+        crowd.faults.set((faults, kind));
+        let hall = Hall(&crowd);
+        let refused = match Loopback::listen(&hall, 1)?.next() {
             Ok((_message, _reply)) => None,
             Err(refused) => Some(refused),
         };
         assert_eq!(rt; refused, fault);
-        assert_eq!(rt; floor.faults.get().0, 0);
-        assert_eq!(rt; floor.passed(), 4900);
+        assert_eq!(rt; crowd.faults.get().0, 0);
+        assert_eq!(rt; crowd.now(), 4900);
     }
     Ok(())
 }

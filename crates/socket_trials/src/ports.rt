@@ -1,5 +1,5 @@
-//! Messages to a port, as a feed sends them: where to, for how long, what is taken for a reply, and
-//! how long it waits before the same comes again.
+//! Tests of the messages that a driver sends to a port: the address, the time limits, the size of
+//! the response, and the pauses before a message is sent again.
 use crate::fake::{Fake, Floor, Step, local, millis};
 use feeding::Exchange;
 use loopback::Port;
@@ -25,8 +25,21 @@ fn a_message_goes_whole_to_a_port_of_this_machine(rt: HostRuntime) -> Result<(),
     Ok(())
 }
 
-// How the writes and the reads of an exchange go, whether the reply comes whole, or nothing, and
-// the waits of the last write and the last read, in milliseconds.
+// The time to connect is part of the minute.
+#[test]
+fn the_minute_begins_before_the_connection(rt: HostRuntime) -> Result<(), Fail> {
+    let floor = Floor::new(rt.alloc(), REPLY, 0);
+    floor.connect_takes.set(2000);
+    let fake = Fake(&floor);
+    let came = Port::new(&fake, rt.alloc(), 8807).exchange(MESSAGE)?;
+    assert!(rt; came.is_some());
+    assert_eq!(rt; millis(floor.write_wait.get()), Some(58_000));
+    assert_eq!(rt; millis(floor.read_wait.get()), Some(58_000));
+    Ok(())
+}
+
+// Each row has the results of the writes and the reads of an exchange, whether the whole response
+// arrives or nothing, and the time limits of the last write and the last read, in milliseconds.
 #[test]
 fn an_exchange_has_a_minute(rt: HostRuntime) -> Result<(), Fail> {
     const SIGNAL: Step = Step::Fails(1000, ErrorKind::Interrupted);
@@ -45,13 +58,13 @@ fn an_exchange_has_a_minute(rt: HostRuntime) -> Result<(), Fail> {
             57_000,
             Some(53_000),
         ),
-        // A write that fails midway, and one that takes nothing.
+        // A write that fails halfway, and a write that accepts nothing.
         (&[LATE, RESET], &[], false, 58_000, None),
         (&[LATE, Step::Bytes(0)], &[], false, 58_000, None),
-        // A reply that is cut.
+        // A response that is cut off.
         (&[], &[LATE, RESET], false, 60_000, Some(58_000)),
         (&[], &[LATE, NEVER], false, 60_000, Some(58_000)),
-        // Nothing is tried once the time is over.
+        // No read or write is tried after the time is over.
         (&[], &[ALL], false, 60_000, Some(60_000)),
         (&[ALL], &[], false, 60_000, None),
     ];
@@ -70,7 +83,7 @@ fn an_exchange_has_a_minute(rt: HostRuntime) -> Result<(), Fail> {
     Ok(())
 }
 
-// A reply to a machine has far fewer bytes.
+// The responses to a driver are far smaller.
 #[test]
 fn a_reply_of_more_than_8192_bytes_is_nothing(rt: HostRuntime) -> Result<(), Fail> {
     for (size, came) in [
@@ -83,7 +96,7 @@ fn a_reply_of_more_than_8192_bytes_is_nothing(rt: HostRuntime) -> Result<(), Fai
         let fake = Fake(&floor);
         let reply = Port::new(&fake, rt.alloc(), 8807).exchange(MESSAGE)?;
         assert_eq!(rt; reply.map(|reply| reply.len()), came, "{size}");
-        // One byte more is read at most.
+        // At most one byte more than the limit is read.
         assert_eq!(rt; size.saturating_sub(floor.behind.get()), size.min(8193));
     }
     Ok(())
@@ -102,7 +115,7 @@ fn ten_tries_last_a_minute(rt: HostRuntime) -> Result<(), Fail> {
         assert_eq!(rt; floor.passed().saturating_sub(begun), pause);
     }
     assert_eq!(rt; floor.passed(), 61_650);
-    // Another message waits for nothing, and begins anew.
+    // A different message is sent without a pause, and its own pauses start with the shortest.
     for pause in [0, 10, 40] {
         let begun = floor.passed();
         port.exchange(b"another")?;

@@ -1,4 +1,4 @@
--- From a statement's error to its cause.
+-- The cause of a statement's error.
 use Rattle.std.proofs.Common.{◌≡◌, ◌⊎◌, ◌≤◌, Bool, Err, IfErr, IsTrue, List, None, Ok, Option, Result, Some, arith, false, inl, inr, refl, subst, sym, true, ℕ, ap}
 use Rattle.std.specs.Result.{IsErrAnd}
 use Rattle.std.proofs.lemmas.Bool.{both_ways, cases_Bool}
@@ -20,14 +20,14 @@ use Rattle.sqlite_trees.specs.declared.error.StoreError.TheVariants.{Broken, Cor
 use Rattle.sql_base.specs.Causes.{HadCause, HasCause, ReportsCause}
 use Rattle.sql_base.proofs.Refusing.{does, reads}
 
--- no fault is forgotten
+-- The count of faults never falls, so a fault is not forgotten.
 more_faults : (a b c : ℕ) → a ≤ b → MoreFaults b c → MoreFaults a c
 more_faults a b c up more = omega arith
 
 cause_since : (a b c : State) (e : Error) → a.faults ≤ b.faults → HasCause b c e → HasCause a c e
 cause_since a b c e up has = λ is. let it = has is in (more_faults a.faults b.faults c.faults up it.0, it.1)
 
--- an error that isn't the disk's needs none
+-- An error that isn't a disk error needs no cause.
 no_cause : (old new : State) (e : Error) → is_disk_error e ≡ false → HasCause old new e
 no_cause old new e plain = λ is. absurd (both_ways _ plain is)
 
@@ -85,7 +85,7 @@ module _ (old new : State) where
   ended_to e (inl it) = failed ⊥ e it
   ended_to e (inr late) = no_cause old new e (ap is_disk_error late.0)
 
--- what a call of `execute` on a transaction reports
+-- the error that `execute` reports in a transaction
 module _ {S : Type 0} (g : Ghosts S) (old new : Held S) (sql : List ℕ) (params : Row) where
   reports_in : (inside : Bool) (r : Result ℕ Error) → (inside ≡ false → (r ≡ Err (SqliteFailure TransactionState)) × (new ≡ old)) → (IsTrue inside → ExecutesInside 0 sql params (state g old) (state g new) r)
       → ReportsCause (state g old) (state g new) r
@@ -100,7 +100,7 @@ module _ {S : Type 0} (g : Ghosts S) (old new : Held S) (sql : List ℕ) (params
       → ReportsCause (state g old) (state g new) r
   reports = reports_in old.in_transaction
 
--- what the exit of a `?` returns
+-- the result if `?` returns early with an error
 exits : {X : Type 0} (P : Error → Type 0) (e : Error) (r : Result X Error) → IsErrAnd r (λ y. y ≡ e) → P e → IfErr r P
 exits P e (Ok x) is has = tt
 exits P e (Err y) is has = subst P (sym is) has
@@ -108,7 +108,7 @@ exits P e (Err y) is has = subst P (sym is) has
 pub passed_on : {X : Type 0} (old new : State) (e : Error) (r : Result X Error) → IsErrAnd r (λ y. y ≡ e) → HasCause old new e → ReportsCause old new r
 passed_on old new e r is has = exits (HasCause old new) e r is has
 
--- further on in a transaction
+-- later states in a transaction
 module _ {X : Type 0} (a b c : State) (r : Result X Error) (up : a.faults ≤ b.faults) where
   pub passed_since : (e : Error) → IsErrAnd r (λ y. y ≡ e) → HasCause b c e → ReportsCause a c r
   passed_since e is has = passed_on a c e r is (cause_since a b c e up has)
@@ -117,7 +117,7 @@ pub reports_since : {X : Type 0} (a b c : State) (r : Result X Error) → a.faul
 reports_since a b c (Ok x) up has = tt
 reports_since a b c (Err e) up has = cause_since a b c e up has
 
--- what a transaction reports that ends behind this moment
+-- the error of a transaction that ends after the state `mid`
 module _ {S : Type 0} (g : Ghosts S) (old mid new : Held S) where
   pub had : {X : Type 0} (e : Error) (r : Result X Error) → IsErrAnd r (λ y. y ≡ e) → HasCause (state g old) (state g mid) e → (state g mid).faults ≤ (state g new).faults
       → IfErr r (HadCause g (state g old) (state g new))

@@ -1,5 +1,5 @@
--- Rows of any number that pass are changed under their rowids, or taken out: from rowids that are
--- apart, up to order.
+-- Any number of rows are changed under their rowids, or removed. All rowids are different, and the
+-- order of rows doesn't matter.
 use Rattle.std.proofs.Common.{IsTrue, arith, inl, inr, ◌≡◌, ◌≤◌, ◌||◌, ℤ, List, [], ◌∷◌, ◌++◌, filter, length, map, not, cond, Bool, true, false, refl, sym, ap, ap₂, subst, ◌∙◌}
 use Rattle.std.proofs.lemmas.Bool.{cases_Bool}
 use Rattle.std.proofs.lemmas.Cmp.{tied_itself}
@@ -24,9 +24,9 @@ use Rattle.sql_base.proofs.Rowids.{back, few_apart}
 use Rattle.sql_base.proofs.Selecting.{all_pass, map_map}
 use Rattle.sql_base.proofs.Tests.{equal_is}
 
--- ---- apart in any order
+-- ---- different rowids, in any order
 
--- at most one row has a rowid
+-- At most one row has the rowid `id`.
 few_at : (rows : List Row) → IsAscending Apart rows → (id : ℤ) → length (filter (has_rowid id) rows) ≤ 1
 few_at rows table id = few_apart (has_rowid id) (Int id) (λ r h. equal_is (value_cmp (rowid r) (Int id)) h) rows table
 
@@ -56,7 +56,7 @@ apart_from_few (r ∷ rows) ints few = (first (int_of (rowid r) ints.0), apart_f
         let hit : has_rowid is.0 r ≡ true = ap (λ v. is_eq (value_cmp v (Int is.0))) is.1 ∙ ap is_eq (tied_itself value_cmp_total (Int is.0)) in
         away rows is.0 is.1 (none_pass (has_rowid is.0) rows (omega (arith, rw hit at (few is.0))))
 
--- rowids that are apart are so in any order
+-- Rowids that are different are also different in any other order of the rows.
 pub apart_permuted : (xs ys : List Row) → IsPermutation xs ys → AreApart xs → AreApart ys
 apart_permuted xs ys same table =
     let ints = all-permutation (λ r. IsTrue (is_int (rowid r))) xs ys same table.ints in
@@ -65,7 +65,7 @@ apart_permuted xs ys same table =
       ints = ints;
     }
 
--- ---- put in
+-- ---- inserted rows
 
 free_before : (r : Row) (news left : List Row) → AllByRecursion (Apart r) (news ++ left) → is_taken left r ≡ false
 free_before r [] [] apart = refl
@@ -76,7 +76,7 @@ among : (r : Row) (news left : List Row) → IsPermutation (r ∷ news ++ left) 
 among r [] left = IsPermutation-refl (r ∷ left)
 among r (x ∷ news) left = IsPermutation-trans _ _ _ (swap_two r x (news ++ left)) (IsPermutation-cons x _ _ (among r news left))
 
--- rows of which no two have one rowid, put in one after the other
+-- rows with different rowids, inserted one after the other
 put_each : (news left : List Row) → AreApart (news ++ left) → IsPermutation (news ++ left) (put_all left news)
 put_each [] left table = IsPermutation-refl left
 put_each (r ∷ news) left table =
@@ -84,7 +84,7 @@ put_each (r ∷ news) left table =
     let moved = IsPermutation-trans _ _ _ (among r news left) (IsPermutation-append_right news (r ∷ left) (put_row r left) put) in
     IsPermutation-trans _ _ _ moved (put_each news (put_row r left) (apart_permuted _ _ moved table))
 
--- ---- taken out
+-- ---- removed rows
 
 out_twice : (p q : Row → Bool) (rows : List Row) → filter (λ r. not (q r)) (filter (λ r. not (p r)) rows) ≡ filter (λ r. not (p r || q r)) rows
 out_twice p q [] = refl
@@ -111,7 +111,7 @@ module _ (p : Row → Bool) where
     | inr miss ↦ rw miss (no_other x rows apart.1)
   ]
 
-  -- a row has the rowid of one that passes just where it passes
+  -- The rowid of a row is the rowid of a row that passes if and only if the row itself passes.
   found_by_id : (rows : List Row) → IsAscending Apart rows → AllByRecursion (λ x. list_any (same_id x) (filter p rows) ≡ p x) rows
   found_by_id [] table = tt
   found_by_id (r ∷ rows) table = at_first (p r) refl (found_by_id rows table.1)
@@ -138,7 +138,8 @@ module _ (p : Row → Bool) where
         same_name : ((n : ℤ) × (rowid r ≡ Int n)) → has_rowid (id_in (rowid (shown r))) x ≡ same_id x r
         same_name is = ap (λ v. has_rowid (id_in v) x) (keeps r is.0 is.1) ∙ ap (λ v. is_eq (value_cmp (rowid x) v)) (sym is.1)
 
-    -- where a query finds the rows that pass, with their rowids, those that do not pass are left
+    -- A query finds the rows that pass, with their rowids. If the rows that it finds are removed,
+    -- the rows that don't pass are left.
     pub all_out : (rows found : List Row) → AreApart rows → IsPermutation (map shown (filter p rows)) found → without_all rows (ids_of found) ≡ filter (λ r. not (p r)) rows
     all_out rows found table all =
         let ids = IsPermutation-map (λ r. id_in (rowid r)) _ _ all in
@@ -146,7 +147,7 @@ module _ (p : Row → Bool) where
         λ x is. ap not (sym (list_any-IsPermutation (λ id. has_rowid id x) _ _ ids) ∙ named x rows table.ints ∙ is) in
         taken_out rows (ids_of found) ∙ filter_same _ _ rows (all_weaker _ _ same rows (found_by_id rows table.apart))
 
--- ---- changed
+-- ---- changed rows
 
 split : (p : Row → Bool) (f : Row → Row) (rows : List Row) → IsPermutation (changed_by p f rows) (map f (filter p rows) ++ filter (λ r. not (p r)) rows)
 split p f [] = IsPermutation-refl []
@@ -170,8 +171,8 @@ mapped_apart f rows same table = record { apart = apart rows same table.apart; i
     ints [] same all = tt
     ints (x ∷ xs) same all = (subst (λ v. IsTrue (is_int v)) (sym same.0) all.0, ints xs same.1 all.1)
 
--- the rows that pass, taken out by their rowids and put back changed under the same ones, are
--- changed where they stand
+-- If the rows that pass are removed by their rowids and put back changed under the same rowids, the
+-- result is the list with these rows changed in their positions, in any order.
 pub rows_updated : (p : Row → Bool) (shown put : Row → Row) (rows found : List Row) → AreApart rows → IsPermutation (map shown (filter p rows)) found
     → KeepsRowid shown → KeepsRowid (λ r. put (shown r))
     → IsPermutation (changed_by p (λ r. put (shown r)) rows) (put_all (without_all rows (ids_of found)) (map put found)) × AreApart (put_all (without_all rows (ids_of found)) (map put found))
@@ -185,7 +186,7 @@ rows_updated p shown put rows found table all keeps keeps_put =
     let after : List Row → Type 0 = λ rest. IsPermutation (changed_by p f rows) (put_all rest (map put found)) × AreApart (put_all rest (map put found)) in
     subst after (sym (all_out p shown keeps rows found table all)) (IsPermutation-trans _ _ _ moved put_in, apart_permuted _ _ put_in apart)
 
--- the rows that are left are apart
+-- The rowids of the remaining rows are different.
 pub rows_left : (p : Row → Bool) (shown : Row → Row) (rows found : List Row) → AreApart rows → IsPermutation (map shown (filter p rows)) found → KeepsRowid shown
     → (without_all rows (ids_of found) ≡ filter (λ r. not (p r)) rows) × AreApart (without_all rows (ids_of found))
 rows_left p shown rows found table all keeps =

@@ -1,4 +1,4 @@
--- What an UPDATE or a DELETE does to the trees, at any schema whose foreign keys do not act.
+-- The effect of UPDATE and DELETE on the trees, in any schema whose foreign keys have no action.
 use Rattle.std.proofs.Common.{◌≡◌, ℕ, List, [], map, drop, filter, slice_get, None, Some, Ok, sym, ap, subst, ◌∙◌}
 use Rattle.std.specs.List.Sorted.{IsPermutation}
 use Rattle.sqlite.specs.declared.types.Value.TheVariants.{Null}
@@ -38,11 +38,11 @@ module _ (sql : List ℕ) (params : Row) (old new : State) (schema : Schema) (ha
   abbrev task : Task
   task = record { limit = old.step_limit; keys = Enforced; schema = schema; table = table; params = params }
 
-  -- what a command does at a schema
+  -- the effect of a command in a schema
   abbrev DoesAt : Schema → Command → Part (Tally × Database)
   DoesAt s command = Does old.step_limit (mode_of old) params (record old.now { schema = s }) (statement_of sql (understood schema sql)) None command
 
-  -- the rows that are found are taken out, and those made of them are put in
+  -- The rows `found` are removed, and the rows made of them are inserted.
   module _ (from : ℕ) (sources : List Row → List Row) where
     abbrev edit_by : List Row → Edit
     edit_by found = edit_of db table (ids_of found) Given from (sources found)
@@ -54,7 +54,7 @@ module _ (sql : List ℕ) (params : Row) (old new : State) (schema : Schema) (ha
       rows : new.now.trees table.tree ≡ edited db (edit_by found)
       others : SparesOthers schema table db new.now.trees
 
-    -- `returned` are the rows that the statement gives
+    -- `returned` are the rows that the statement returns.
     abbrev Edits : (returned : List Row → List Row) → Part Written
     Edits returned = Then (Queried old.step_limit (record old.now { schema = schema }) program params) (λ found.
         Then (Edited schema Enforced db (edit_by found)) (λ next. Gives (record { trees = next; rows = returned found; last = None })))

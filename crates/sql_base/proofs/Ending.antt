@@ -1,4 +1,4 @@
--- From a statement to its transaction's commit, once for all relations.
+-- From a statement to the commit of its transaction, for every relation `R`.
 use Rattle.std.proofs.Common.{Bool, [], Result, Ok, Err, OnOk, OnErr, IfErr, IsErr, inl, inr, ◌≡◌, ℕ, List, true, false, IsTrue, refl, sym, ap, subst, ◌∙◌, arith}
 use Rattle.sqlite.specs.Order.{Row}
 use Rattle.sqlite.specs.Store.{Ghosts}
@@ -13,7 +13,7 @@ use Rattle.sqlite.proofs.Callers.{survives_begin}
 use Rattle.sqlite.proofs.InsideLemmas.{inside_keeps, keeps_then}
 use Rattle.sql_base.specs.Ends.{Inside, Wrote, Ends, IsLeft, IsKept}
 
--- what a call of `execute` on a transaction is worth
+-- the facts about a call of `execute` on a transaction
 module _ {S : Type 0} (g : Ghosts S) (R : Database → Database → Type 0) (old new : Held S) (sql : List ℕ) (params : Row) (e : Error)
     (step : (count : ℕ) → Executes sql params (state g old) (state g new) (Ok count) → R (state g old).now (state g new).now) where
   wrote_in : (inside : Bool) (r : Result ℕ Error) → (inside ≡ false → (r ≡ Err e) × (new ≡ old)) → (IsTrue inside → ExecutesInside 0 sql params (state g old) (state g new) r)
@@ -38,7 +38,7 @@ pub wrote_then : {X : Type 0} (P Q R : Database → Database → Type 0) (a b c 
 wrote_then P Q R a b c (Ok x) both one kept two = record { well = inside_then P Q R a b c both one two.well; kept = keeps_then a b c kept two.kept }
 wrote_then P Q R a b c (Err e) both one kept two = record { well = tt; kept = keeps_then a b c kept two.kept }
 
--- an error on the way
+-- an error before the commit
 pub failed_wrote : {X : Type 0} (R : Database → Database → Type 0) (a b : State) (r : Result X Error) → IsErr r → KeepsCommit a b → Wrote R a b r
 failed_wrote R a b (Ok x) is kept = absurd (cc)
 failed_wrote R a b (Err e) is kept = record { well = tt; kept = kept }

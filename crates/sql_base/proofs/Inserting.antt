@@ -1,4 +1,4 @@
--- What an INSERT of rows does to the trees, at any schema whose foreign keys do not act.
+-- The effect of an INSERT of rows on the trees, in any schema whose foreign keys have no action.
 use Rattle.std.proofs.Common.{◌≡◌, ◌⊎◌, inl, inr, ℕ, ◌/◌, ◌-◌, List, [], ◌∷◌, ◌++◌, length, drop, map, slice_get, MatchBool, fold, ℤ, true, false, Some, None, Option, Ok, Err, Result, refl, sym, ap, subst, ◌∙◌, append-nil, if◌then◌else◌, arith}
 use Rattle.std.proofs.lemmas.Bool.{cases_Bool}
 use Rattle.std.specs.List.Sorted.{IsPermutation}
@@ -31,7 +31,7 @@ use Rattle.sqlite_schema.specs.declared.schema.Stamps.{Stamps}
 use Rattle.sqlite.specs.Term.{eval_all}
 use Rattle.sql_base.specs.Effects.{Inserted, SparesOthers}
 
--- a part that gave a value did not stop on the way
+-- A part that returned a value was not stopped before.
 pub went : {B E R : Type 0} {b : B} {Stops : E → Type 0} → ((stop : E) × Stops stop × (Ok b ≡ Err stop)) ⊎ R → R
 went (inl stopped) = absurd (let e = stopped.2 in cc)
 went (inr on) = on
@@ -47,7 +47,7 @@ put_case Less r x xs put ne h = IsPermutation-trans _ _ _ (swap_two r x xs) (IsP
 put_case Equal r x xs put ne h = absurd (cc)
 put_case Greater r x xs put ne h = IsPermutation-refl _
 
--- a row with a free rowid is put among the others
+-- A row with a free rowid is added to the others.
 pub put_fresh : (r : Row) (rows : List Row) → is_taken rows r ≡ false → IsPermutation (r ∷ rows) (put_row r rows)
 put_fresh r [] free = IsPermutation-refl _
 put_fresh r (x ∷ rows) free = elim (cases_Bool (is_eq (value_cmp (rowid x) (rowid r)))) [

@@ -1,4 +1,4 @@
--- Rows that are put in one after the other, under rowids that SQLite chose.
+-- Rows that are inserted one after the other, under rowids that SQLite chooses.
 use Rattle.std.proofs.Common.{◌≡◌, List, [], ◌∷◌, ◌++◌, map, drop, not, true, false, refl}
 use Rattle.std.proofs.lemmas.Bool.{and_parts}
 use Rattle.std.specs.List.Sorted.{IsPermutation}
@@ -13,11 +13,11 @@ use Rattle.sql_base.proofs.Inserting.{one_fresh}
 use Rattle.sql_base.proofs.Rowids.{put_apart}
 use Rattle.sql_base.proofs.Values.{one_more}
 
--- with no rowid yet
+-- a row without a rowid yet
 abbrev pub unnumbered_row : Row → Row
 unnumbered_row row = Null ∷ row
 
--- so are the rows numbered, for a table that has these
+-- the rows with the rowids that SQLite chooses, in a table with the rows `stored`
 abbrev pub chosen : List Row → List Row → List Row
 chosen stored rows = numbered Chosen stored (map unnumbered_row rows)
 

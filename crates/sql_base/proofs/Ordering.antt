@@ -21,7 +21,7 @@ length_mapped : {A B : Type 0} (f : A → B) (xs : List A) → length (map f xs)
 length_mapped f [] = refl
 length_mapped f (x ∷ xs) = ap suc (length_mapped f xs)
 
--- what it is sorted by is its first column
+-- The sort key is the first column.
 abbrev Keyed : Output → Type 0
 Keyed o = column o.0 0 ≡ column o.1 0
 
@@ -31,7 +31,7 @@ module _ (tree : ℕ) (filters : List Term) (first : Term) (more : List Term) wh
   all_keyed (e ∷ envs) zero d low = refl
   all_keyed (e ∷ envs) (suc i) d low = all_keyed envs i d (omega arith)
 
-  -- the rows that pass, shown, in the order of the first column
+  -- the rows that pass, as shown, in the order of the first column
   pub in_order : (db : Trees) (params : Row) (rows : List Row) → IsAnswer (by_first tree filters first more) (overlay db []) params rows
       → IsPermutation (map (shown (first ∷ more) params) (filter (passes filters params) (db tree))) rows × IsRising rows
   in_order db params rows a =

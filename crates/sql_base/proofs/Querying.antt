@@ -1,4 +1,4 @@
--- A query inside a transaction commits nothing, whatever it is.
+-- A query inside a transaction commits nothing, regardless of its text.
 use Rattle.std.proofs.Common.{◌⊎◌, ℕ, List, Option, Some, None, Result, Ok, Err, Vec, Global, cond, inl, inr, IsTrue, IfOk, IfErr, ap, ◌∙◌}
 use Rattle.sqlite.specs.Order.{Row}
 use Rattle.sqlite.specs.declared.rows.Row as rows
@@ -26,7 +26,7 @@ module _ (old new : State) where
   shows_open sql c params rows None h = h.3.0.was_open
   shows_open sql c params rows (Some what) h = h.1.shown.was_open
 
-  -- what is answered is answered by an open connection
+  -- If a query returns rows, the connection was open.
   pub shown_open : (sql : List ℕ) (params : Row) (rows : List Row) → Shown sql params old new rows → IsTrue old.is_open
   unfolding Shown
   shown_open sql params rows h = shows_open sql h.0 _ rows h.0.returning h.2

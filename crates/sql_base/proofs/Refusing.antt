@@ -1,4 +1,4 @@
--- What SQL refuses is reported by no error of the disk.
+-- Errors of SQL itself are never reported as disk errors.
 use Rattle.std.proofs.Common.{◌≡◌, ◌⊎◌, ◌∙◌, Bool, Err, List, MatchBool, None, Option, Some, [], ap, false, inl, inr, refl, true, ◌∷◌, ℕ, ℤ}
 use Rattle.std.specs.Option.{option_to_list}
 use Rattle.std.specs.Prelude.{is_some, option_map}
@@ -37,7 +37,7 @@ use Rattle.sqlite_schema.specs.declared.schema.Schema.{Schema}
 use Rattle.sqlite_schema.specs.Rules.{Refers}
 use Rattle.sqlite_schema.specs.declared.schema.Table.{Table}
 
--- it refuses nothing by an error of the disk
+-- No error that the part `P` returns by itself is a disk error.
 pub record Spares {A : Type 0} (P : Part A) : Type 0 where
   pub none : (e : Error) → P (Err (Some e)) → is_disk_error e ≡ false
 
@@ -204,7 +204,7 @@ module _ (task : Task) where
   on_rows : (mode : Mode) (o : Option Returning) (command : Command) (db : Trees) → Spares (OnRows task mode o command db)
   on_rows mode o command db = then _ _ (writes_rows db command) (concludes mode o)
 
-  -- ---- tables, indices and views
+  -- ---- tables, indexes and views
 
   empties : (db : Trees) → Spares (Empties task db)
   empties db =

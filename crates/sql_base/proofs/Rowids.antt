@@ -1,4 +1,4 @@
--- Rows whose rowids are apart.
+-- Rows with different rowids.
 use Rattle.std.proofs.Common.{IsTrue, arith, inl, inr, ◌≡◌, List, [], ◌∷◌, filter, Bool, true, false, refl, ap, ◌∙◌, Less, Equal, Greater, Ordering, length, ◌≤◌}
 use Rattle.std.proofs.lemmas.Bool.{cases_Bool}
 use Rattle.std.proofs.lemmas.Cmp.{alike_right}
@@ -18,7 +18,7 @@ turned Less = refl
 turned Equal = refl
 turned Greater = refl
 
--- apart one way round, apart the other
+-- The relation is symmetric.
 pub back : (a b : Value) → is_eq (value_cmp a b) ≡ false → is_eq (value_cmp b a) ≡ false
 back a b h = ap is_eq (value_cmp_total.antisymm b a) ∙ turned (value_cmp a b) ∙ h
 
@@ -34,7 +34,7 @@ apart_all new (x ∷ rows) free = elim (cases_Bool (is_eq (value_cmp (rowid x) (
   | inr miss ↦ (back (rowid x) (rowid new) miss, apart_all new rows (rw miss at free))
 ]
 
--- a row that is put in under a free rowid leaves them apart
+-- After a row is inserted under a free rowid, all rowids are still different.
 pub put_apart : (new : Row) (rows : List Row) → IsTrue (is_int (rowid new)) → is_taken rows new ≡ false → AreApart rows → AreApart (put_row new rows)
 put_apart new rows int free table = record { apart = go rows free table.apart; ints = all_put (λ r. IsTrue (is_int (rowid r))) new rows int table.ints }
   where
@@ -51,7 +51,7 @@ put_apart new rows int free table = record { apart = go rows free table.apart; i
       | inr miss ↦ at_case (value_cmp (rowid x) (rowid new)) x rows refl free table.0 table.1 (go rows (rw miss at free) table.1)
     ]
 
--- at most one row has a rowid
+-- At most one row has a given rowid.
 pub few_apart : (p : Row → Bool) (id : Value) → ((r : Row) → p r ≡ true → value_cmp (rowid r) id ≡ Equal) → (rows : List Row) → IsAscending Apart rows → length (filter p rows) ≤ 1
 few_apart p id by [] table = omega arith
 few_apart p id by (x ∷ rows) table = elim (cases_Bool (p x)) [

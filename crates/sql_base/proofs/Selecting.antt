@@ -1,4 +1,4 @@
--- What a query over one table answers.
+-- The result of a query over one table.
 use Rattle.std.proofs.Common.{inl, inr, ◌≡◌, ℕ, List, [], ◌∷◌, map, filter, flat_map, cond, Bool, true, false, None, Option, Result, Ok, Err, IfOk, OnOk, refl, sym, ap, subst, ◌∙◌, slice_get, unwrap_or, nat_le, ◌-◌, ◌^◌}
 use Rattle.std.proofs.lemmas.Bool.{cases_Bool}
 use Rattle.std.specs.List.{list_all}
@@ -18,7 +18,7 @@ use Rattle.sqlite.specs.Clock.{timed}
 use Rattle.sqlite.proofs.Callers.{IsPlain, command_of, reads_as}
 use Rattle.sql_base.specs.Queries.{from_tree}
 
--- the row passes every term of WHERE
+-- The row satisfies every term of WHERE.
 abbrev pub passes : List Term → Row → Row → Bool
 passes filter params row = list_all (holds (params ∷ row ∷ [])) filter
 
@@ -44,7 +44,7 @@ pub map_map : {A B C : Type 0} (g : B → C) (f : A → B) (xs : List A) → map
 map_map g f [] = refl
 map_map g f (x ∷ xs) = ap (λ ys. g (f x) ∷ ys) (map_map g f xs)
 
--- the rows that pass, shown, in some order
+-- the rows that pass, as shown, in any order
 pub answered : (tree : ℕ) (filters project : List Term) (db : Trees) (params : Row) (rows : List Row) → IsAnswer (from_tree tree filters project) (overlay db []) params rows
     → IsPermutation (map (shown project params) (filter (passes filters params) (db tree))) rows
 answered tree filters project db params rows a =
@@ -56,7 +56,7 @@ answered tree filters project db params rows a =
     ∙ map_map (λ (e : Env). eval_all project e) (λ r. params ∷ r ∷ []) (filter (passes filters params) (db tree)) in
     subst (λ xs. IsPermutation xs rows) all (subst (IsPermutation (map (λ (p : Output). p.1) a.kept)) (sym a.shown) (IsPermutation-map (λ (p : Output). p.1) a.kept a.ordered a.same))
 
--- the answer of a query over one table with no ORDER BY
+-- the result of a query over one table without ORDER BY
 pub selected : (sql : List ℕ) (params : Row) (old new : State) (schema : Schema) → old.now.schema ≡ schema → (tree : ℕ) (filters project : List Term) (names : List (List ℕ))
     → command_of (understood schema sql) ≡ Select (record { lets = []; body = from_tree tree filters project }) names → IsPlain (understood schema sql) → reads_listing schema sql ≡ false
     → (rows : List Row) → Shown sql params old new rows → IsPermutation (map (shown project params) (filter (passes filters params) (old.now.trees tree))) rows
@@ -84,7 +84,7 @@ pub on_ok : {X E : Type 0} (r : Result X E) (P : Type 0) → P → OnOk r P
 on_ok (Ok x) P h = h
 on_ok (Err e) P h = tt
 
--- a query that is no write leaves the connection as it was
+-- A query that doesn't write leaves the connection unchanged.
 pub unchanged_by : (sql : List ℕ) (params : Row) (old new : State) (schema : Schema) → old.now.schema ≡ schema → IsPlain (understood schema sql) → (rows : List Row) → Shown sql params old new rows → IsUnchanged old new
 unfolding Shown
 unchanged_by sql params old new schema has plain rows h =

@@ -1,4 +1,4 @@
--- Typed rows, where the rows that they stand as are changed or taken out.
+-- Typed rows, if the rows that encode them are changed or removed.
 use Rattle.std.proofs.Common.{IsTrue, ◌≡◌, List, [], ◌∷◌, drop, filter, map, not, cond, Bool, true, false, refl, sym, ap, ap₂, subst, ◌∙◌}
 use Rattle.std.specs.List.{AllByRecursion}
 use Rattle.std.specs.List.Sorted.{IsPermutation}
@@ -13,7 +13,7 @@ use Rattle.sql_base.proofs.Selecting.{map_map, map_same}
 
 module _ {X : Type 0} (encode : X → Row) (hit : Row → Bool) (test : X → Bool) (typed_hit : (x : X) → hit (encode x) ≡ test x) where
   module _ (alter : Row → Row) (change : X → X) (typed_change : (x : X) → alter (encode x) ≡ encode (change x)) where
-    -- those that pass are changed
+    -- the value, changed if it passes
     abbrev pub set_where : X → X
     set_where x = cond (test x) (change x) x
 
@@ -36,7 +36,8 @@ module _ {X : Type 0} (encode : X → Row) (hit : Row → Bool) (test : X → Bo
       let is = filter-map (λ r. not (hit r)) encode xs ∙ ap (map encode) (filter_same (λ x. not (hit (encode x))) (λ x. not (test x)) (λ x. ap not (typed_hit x)) xs) in
       subst (λ rows. IsPermutation rows (filter (λ r. not (hit r)) stored)) is (IsPermutation-filter (λ r. not (hit r)) _ _ same)
 
--- what is done to rows under rowids, given without them, where it does not look at these
+-- Rows with rowids, shown without them: the effect of a change or removal whose test doesn't depend
+-- on the rowid.
 module _ (hit : Row → Bool) (whole_hit : Row → Bool) (blind_hit : (v : Value) (r : Row) → whole_hit (v ∷ r) ≡ hit r) where
   pub given_left : (rows : List Row) → AllByRecursion (λ r. IsTrue (is_int (rowid r))) rows
       → map (drop 1) (filter (λ r. not (whole_hit r)) rows) ≡ filter (λ r. not (hit r)) (map (drop 1) rows)

@@ -1,4 +1,4 @@
--- Values as they are stored, and one more row.
+-- Values as they are stored, and an added row.
 use Rattle.std.proofs.Common.{◌≡◌, ℤ, List, ◌∷◌, map, drop, cond, Bool, true, false, refl, subst}
 use Rattle.std.specs.List.Sorted.{IsPermutation}
 use Rattle.std.proofs.lemmas.List.Sorted.{IsPermutation-map}
@@ -25,7 +25,7 @@ pub cast_int : (n : ℤ) → cast Integer (Int n) ≡ Int n
 unfolding unary
 cast_int n = either _ (Int n)
 
--- one more row, under a rowid that SQLite chose
+-- an added row, under a rowid that SQLite chooses
 pub one_more : (stored : Row) (rows all : List Row) → put_row (with_rowid Chosen rows (Null ∷ stored)) rows ≡ all → is_taken rows (with_rowid Chosen rows (Null ∷ stored)) ≡ false
     → IsPermutation (stored ∷ map (drop 1) rows) (map (drop 1) all)
 one_more stored rows all is free =

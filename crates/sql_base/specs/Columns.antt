@@ -1,4 +1,4 @@
--- Columns that take no NULL, and a schema with nothing in it.
+-- Columns that don't accept NULL, and the empty schema.
 use Rattle.std.specs.Prelude.{true, [], List, ℕ, pos}
 use Rattle.sqlite.specs.Collation.TheVariants.{Binary}
 use Rattle.sqlite.specs.declared.types.Value.TheVariants.{Null, Int}
@@ -19,11 +19,11 @@ text_column name = record { name = name; kind = Text; is_strict = true; not_null
 abbrev pub blob_column : List ℕ → Column
 blob_column name = record { name = name; kind = Blob; is_strict = true; not_null = true; default = Null; collation = Binary }
 
--- no column is computed
+-- No column is computed.
 abbrev pub no_stamps : Stamps
 no_stamps = record { places = []; terms = []; formats = [] }
 
--- low <= the column at this place <= high
+-- low <= column `at` <= high
 abbrev pub between : ℕ → ℕ → ℕ → Term
 between at low high = op2 And (op2 (Compare Ge Binary) (col 1 at) (lit (Int (pos low)))) (op2 (Compare Le Binary) (col 1 at) (lit (Int (pos high))))
 

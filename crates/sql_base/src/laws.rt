@@ -1,11 +1,11 @@
-//! Laws of connections. Each function does nothing; who calls it has its law.
+//! Lemmas about connections. Each function does nothing, and its contract is the lemma.
 ghost use Rattle.std.specs.Prelude.{◌≡◌, false, IsTrue};
 ghost use Rattle.sqlite.specs.Held.{state};
 ghost use Rattle.sqlite.specs.State.{IsLive};
 
 use sqlite::{Alter, Connection};
 
-/// Outside a transaction all that an open database shows is committed.
+/// Lemma: outside a transaction, everything that an open connection shows is committed.
 pub fn is_committed<S: Alter>(conn: &Connection<S>)
     requires { conn.now.in_transaction ≡ false }
     ensures { IsTrue (state S.Store conn.now).is_open
@@ -14,7 +14,7 @@ pub fn is_committed<S: Alter>(conn: &Connection<S>)
     let _ = conn.is_autocommit();
 }
 
-/// What an open connection shows is a database.
+/// Lemma: an open connection shows a database.
 pub fn is_live<S: Alter>(conn: &Connection<S>)
     ensures { IsLive (state S.Store conn.now) }
 {

@@ -1,4 +1,4 @@
-//! What a statement on one table does to a database, at any schema, and what a transaction leaves.
+//! The effect of a statement on one table of any schema, and the result of a transaction.
 #![tactic(auto)]
 
 pub mod laws;

@@ -1,4 +1,4 @@
-//! Tables and indices are made.
+//! Creates tables and indexes.
 ghost use Rattle.std.specs.Prelude.{◌≡◌, ◌↔◌, IsTrue};
 ghost use Rattle.sqlite.specs.Held.{state};
 ghost use Rattle.sqlite.specs.State.{HasCleanDisk, Survives};
@@ -10,15 +10,15 @@ ghost use Rattle.sql_base.specs.Making.{MakesIndex, MakesTable};
 use sqlite::{Alter, Error, Transaction};
 use sqlite_schema::schema::Schema;
 
-/// Whether there is no table, no index and no view.
+/// Returns `true` if the schema has no table, no index and no view.
 pub fn is_empty(schema: &Schema) -> bool
     ensures { IsTrue result ↔ (schema.now ≡ no_schema) }
 {
     schema.tables.is_empty() && schema.indexes.is_empty() && schema.views.is_empty()
 }
 
-/// Makes the table or the index that a text defines, in an open transaction. A crash leaves nothing
-/// of it.
+/// Creates the table or the index that `sql` defines, in the open transaction `tx`. A crash leaves
+/// no trace of it.
 pub fn make<S: Alter>(tx: &mut Transaction<'_, S>, sql: &str) -> Result<usize, Error>
     ensures same_reference { tx.new.conn.ghost_name ≡ tx.old.conn.ghost_name }
     ensures made { HasCleanDisk (state S.Store tx.new.conn.now)

@@ -1,4 +1,4 @@
-//! Rows are read, in a transaction that is dropped.
+//! Reads rows in a transaction that is rolled back.
 ghost use Rattle.std.specs.Prelude.{◌≡◌, ◌<◌, ◌^◌, false, true, pos, IfErr, IfOk};
 ghost use Rattle.sqlite.specs.Held.{state};
 ghost use Rattle.sqlite.specs.State.{HasCleanDisk, Shown, Survives};
@@ -12,7 +12,7 @@ use crate::laws;
 use sqlite::types::ValueRef;
 use sqlite::{Alter, Connection, Error, Row};
 
-/// A number as a parameter of a statement. SQL's numbers end below 2^63.
+/// Returns `n` as a parameter of a statement. Integers in SQL are less than 2^63.
 pub fn int(n: u64) -> ValueRef<'static>
     requires { n < 2 ^ 63 }
     ensures { owned result ≡ Int (pos n) }
@@ -20,8 +20,8 @@ pub fn int(n: u64) -> ValueRef<'static>
     ValueRef::Int(n as i64)
 }
 
-/// The rows of a query's answer. The query runs in a transaction that is dropped, so that nothing
-/// is committed, whatever its text is.
+/// Returns the rows of a query. The query runs in a transaction that is dropped without a commit,
+/// so nothing is committed, regardless of the text of the query.
 pub fn rows_of<S: Alter>(
     conn: &mut Connection<S>,
     sql: &str,

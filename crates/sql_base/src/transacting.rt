@@ -1,4 +1,4 @@
-//! A unit of work is done in one transaction.
+//! Executes a unit of work in one transaction.
 ghost use Rattle.std.specs.Prelude.{◌≡◌, false, IfErr, OnErr, OnOk};
 ghost use Rattle.sqlite.specs.Held.{state};
 ghost use Rattle.sqlite.specs.State.{HasCleanDisk, Survives};
@@ -8,7 +8,7 @@ ghost use Rattle.sql_base.specs.Ends.{Ends, IsKept, IsLeft};
 use crate::laws;
 use sqlite::{Alter, Connection, Error, Transaction};
 
-/// What is done in one transaction.
+/// Work that is done in one transaction.
 pub trait UnitOfWork {
     ghost use Rattle.std.specs.Prelude.{◌≡◌};
     ghost use Rattle.sqlite.specs.Effect.{Database};
@@ -17,13 +17,14 @@ pub trait UnitOfWork {
     ghost use Rattle.sql_base.specs.Causes.{ReportsCause};
     ghost use Rattle.sql_base.specs.Ends.{Wrote};
 
-    /// What it makes of the database.
+    /// The effect on the database: the relation between the database before and after the work.
     ghost makes: { Self → Database → Database → Type 0 };
 
-    /// Holds where it reports an error of the disk only for its cause.
+    /// The condition under which `run` reports a disk error only if the disk has failed or refused
+    /// an operation. The default ⊥ promises nothing.
     ghost explains: { Type 0 } = { ⊥ };
 
-    /// Does it, in an open transaction. A crash leaves nothing of it.
+    /// Does the work in the open transaction `tx`. A crash leaves no trace of it.
     fn run<S: Alter>(&self, tx: &mut Transaction<'_, S>) -> Result<(), Error>
         ensures same_reference { tx.new.conn.ghost_name ≡ tx.old.conn.ghost_name }
         ensures made { HasCleanDisk (state S.Store tx.new.conn.now)
@@ -36,8 +37,8 @@ pub trait UnitOfWork {
             (state S.Store tx.new.conn.now) result };
 }
 
-/// Does the work in a transaction of its own, or nothing. A crash leaves what it could leave
-/// before, or all of it.
+/// Does the work in a transaction of its own: all of it or, after an error, none of it. After a
+/// crash the database is as it could be before the call, or has all of the work.
 pub fn transact<W: UnitOfWork, S: Alter>(conn: &mut Connection<S>, work: &W) -> Result<(), Error>
     requires { conn.old.in_transaction ≡ false }
     ensures ok { HasCleanDisk (state S.Store conn.new) → OnOk result

@@ -1,5 +1,4 @@
--- Rows of one table are changed or taken out, where the statement gives the ones it means by what
--- stands in them.
+-- Rows of one table are changed or removed. The statement selects rows by their values.
 use Rattle.std.proofs.Common.{◌≡◌, Bool, List, ◌∷◌, cond, drop, filter, map, not, sym, subst, ◌∙◌}
 use Rattle.std.specs.List.Sorted.{IsPermutation}
 use Rattle.std.proofs.lemmas.List.Sorted.{IsPermutation-map, IsPermutation-trans}
@@ -18,7 +17,7 @@ use Rattle.sql_tables.specs.Tables.{our_schema}
 use Rattle.sql_rows.specs.Image.{IsFilled, by_rowid, unnumbered}
 
 module _ {X : Type 0} (table : Table) (encode : X → Row) (hit : Row → Bool) (show : Row → Row) (test : X → Bool) (keeps : KeepsRowid show) where
-  -- what is shown of a row, as it is put back
+  -- a row as it is put back, from its result in the query
   abbrev put_back : Row → Row
   put_back s = cast_row table (drop 1 s)
 
@@ -26,7 +25,7 @@ module _ {X : Type 0} (table : Table) (encode : X → Row) (hit : Row → Bool) 
     abbrev changed : List X
     changed = map (λ x. cond (test x) (change x) x) xs
 
-    -- rows that are given with their rowids
+    -- rows with their rowids
     pub rows_set : ((x : X) → hit (encode x) ≡ test x) → ((x : X) → put_back (show (encode x)) ≡ encode (change x))
         → IsFilled (by_rowid table (map encode xs)) old.now.trees → IsFilled (by_rowid table (map encode changed)) new.now.trees
     rows_set typed_hit typed_change is =
@@ -38,7 +37,7 @@ module _ {X : Type 0} (table : Table) (encode : X → Row) (hit : Row → Bool) 
           apart = subst AreApart (sym it.rows) made.1;
         }
 
-    -- rows that are given without them
+    -- rows without their rowids
     pub unnumbered_set : ((x : X) → hit (Null ∷ encode x) ≡ test x) → ((x : X) → drop 1 (put_back (show (Null ∷ encode x))) ≡ encode (change x))
         → ((v : Value) (r : Row) → hit (v ∷ r) ≡ hit (Null ∷ r)) → ((v : Value) (r : Row) → drop 1 (put_back (show (v ∷ r))) ≡ drop 1 (put_back (show (Null ∷ r))))
         → IsFilled (unnumbered table (map encode xs)) old.now.trees → IsFilled (unnumbered table (map encode changed)) new.now.trees
@@ -54,7 +53,7 @@ module _ {X : Type 0} (table : Table) (encode : X → Row) (hit : Row → Bool) 
           apart = subst AreApart (sym it.rows) made.1;
         }
 
-  -- those that pass are gone
+  -- The rows that pass are removed.
   pub unnumbered_gone : ((x : X) → hit (Null ∷ encode x) ≡ test x) → ((v : Value) (r : Row) → hit (v ∷ r) ≡ hit (Null ∷ r))
       → (xs : List X) (old new : State) → Deleted our_schema table hit show old new
       → IsFilled (unnumbered table (map encode xs)) old.now.trees → IsFilled (unnumbered table (map encode (filter (λ x. not (test x)) xs))) new.now.trees

@@ -1,4 +1,4 @@
--- One table's rows change, and those of the others stay.
+-- The rows of one table change, and all other tables keep their rows.
 use Rattle.std.proofs.Common.{◌≡◌, ◌≢◌, ℕ, pos, true, List, [], ◌∷◌, ◌++◌, drop, map, not, ◌==◌, arith, refl, sym, subst}
 use Rattle.std.specs.List.{AllByRecursion, list_all}
 use Rattle.std.proofs.lemmas.Bool.{and_parts}
@@ -21,11 +21,11 @@ use Rattle.table_rows.specs.Tables.{Tables}
 use Rattle.sql_rows.specs.Image.{Filled, IsFilled, IsImage, by_rowid, filled, given_rows, unnumbered}
 
 module _ (key : ℕ) (old new : Trees) where
-  -- all trees but this one stay
+  -- The table keeps its rows, unless its tree is `key`.
   abbrev Stays : Table → Type 0
   Stays table = table.tree ≢ key → new table.tree ≡ old table.tree
 
-  -- it has another tree
+  -- The table has another tree than `key`.
   abbrev IsOther : Filled → Type 0
   IsOther x = x.table.tree ≢ key
 
@@ -40,7 +40,7 @@ module _ (key : ℕ) (old new : Trees) where
   others_stay [] other spared each = tt
   others_stay (x ∷ xs) other spared each = (stays x (spared.0 other.0) each.0, others_stay xs other.1 spared.1 each.1)
 
-  -- another filling of one table
+  -- one table with other rows
   pub filled_at : (before after : List Filled) (x y : Filled) → AllByRecursion IsOther before → AllByRecursion IsOther after
       → AllByRecursion Stays (map (λ (z : Filled). z.table) (before ++ x ∷ after))
       → AllByRecursion (λ z. IsFilled z old) (before ++ x ∷ after) → (IsFilled x old → IsFilled y new) → AllByRecursion (λ z. IsFilled z new) (before ++ y ∷ after)
@@ -58,7 +58,7 @@ apart_by key (x ∷ xs) ok =
 
 module _ (before after : List Filled) (table : Table) (left : list_all (λ (x : Filled). not (x.table.tree == table.tree)) before ≡ true)
     (right : list_all (λ (x : Filled). not (x.table.tree == table.tree)) after ≡ true) (t u : Tables) (old new : State) where
-  -- another filling of the table is an image where the statement spared the others
+  -- If the statement changes only one table, the new rows of this table make an image.
   pub refilled : (x y : Filled) → x.table ≡ table → filled t ≡ before ++ x ∷ after → filled u ≡ before ++ y ∷ after
       → map (λ (z : Filled). z.table) (before ++ x ∷ after) ≡ our_schema.tables → new.now.schema ≡ our_schema → IsDatabase new.now
       → SparesOthers our_schema table old.now.trees new.now.trees → (IsFilled x old.now.trees → IsFilled y new.now.trees) → IsImage t old.now → IsImage u new.now
@@ -72,7 +72,7 @@ module _ (before after : List Filled) (table : Table) (left : list_all (λ (x : 
             (subst (AllByRecursion (λ z. IsFilled z old.now.trees)) is_t image.each) moves);
       }
 
--- more rows, under rowids that SQLite chose
+-- more rows, under rowids that SQLite chooses
 pub rows_put : (table : Table) (news rows : List Row) (old new : State) → Inserted our_schema table (map unnumbered_row news) old new
     → IsFilled (unnumbered table rows) old.now.trees → IsFilled (unnumbered table (news ++ rows)) new.now.trees
 rows_put table news rows old new it is =
@@ -85,7 +85,7 @@ rows_put table news rows old new it is =
       apart = subst AreApart (sym it.rows) more.1;
     }
 
--- one more row, under the rowid that the statement gave it
+-- one more row, under the rowid that the statement contains
 pub row_put_under : (table : Table) (id : ℕ) (row : Row) (rows : List Row) (old new : State) → Inserted our_schema table ((Int (pos id) ∷ row) ∷ []) old new
     → IsFilled (by_rowid table rows) old.now.trees → IsFilled (by_rowid table ((Int (pos id) ∷ row) ∷ rows)) new.now.trees
 row_put_under table id row rows old new it is =

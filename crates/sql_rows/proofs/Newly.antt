@@ -1,4 +1,4 @@
--- Newly made tables hold no row beside the version.
+-- Newly created tables contain no row except the row of `version`.
 use Rattle.std.proofs.Common.{◌≡◌, [], ◌∷◌, Bool, true, false, refl, sym, ap, subst}
 use Rattle.std.specs.List.Sorted.{IsPermutation}
 use Rattle.std.proofs.lemmas.List.Sorted.{IsPermutation-refl}

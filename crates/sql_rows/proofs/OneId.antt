@@ -1,4 +1,4 @@
--- No two batches of an image have one id.
+-- No two batches of an image have the same id.
 use Rattle.std.proofs.Common.{◌≡◌, ◌==◌, ℕ, pos, false, List, [], ◌∷◌, map, int_cmp, sym, ap, ◌∙◌, arith}
 use Rattle.std.proofs.lemmas.Bool.Decides.{nat_tests}
 use Rattle.std.specs.List.{AllByRecursion}
@@ -25,7 +25,7 @@ differ : (b : StoredBatch) (bs : List StoredBatch) → AllByRecursion (Apart (ba
 differ b [] apart = tt
 differ b (x ∷ bs) apart = (differs b.id x.id apart.0, differ b bs apart.1)
 
--- those beside the first have other ids
+-- All batches after the first have other ids.
 pub others_differ : (b : StoredBatch) (bs : List StoredBatch) (trees : Trees) → IsFilled (by_rowid batch_table (map batch_row (b ∷ bs))) trees
     → AllByRecursion (λ (x : StoredBatch). (x.id == b.id) ≡ false) bs
 others_differ b bs trees is = differ b bs ((apart_permuted _ _ (IsPermutation-sym _ _ is.rows) is.apart).apart.0)

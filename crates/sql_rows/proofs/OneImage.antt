@@ -1,4 +1,4 @@
--- A database has the rows of one image alone.
+-- A database has the rows of only one image.
 use Rattle.std.proofs.Common.{◌≡◌, Bool, true, false, List, [], ◌∷◌, map, refl, subst}
 use Rattle.std.specs.List.Sorted.{IsPermutation}
 use Rattle.std.proofs.lemmas.List.Sorted.{IsPermutation-map, IsPermutation-sym, IsPermutation-trans}
@@ -60,7 +60,7 @@ module _ {X : Type 0} (encode : X → Row) (decode : Row → X) (back : (x : X) 
   decoded [] = refl
   decoded (x ∷ xs) = rw (back x, decoded xs) refl
 
-  -- two lists stand as the same rows
+  -- Two lists that encode to the same rows have the same elements.
   pub same_typed : (xs ys : List X) (rows : List Row) → IsPermutation (map encode xs) rows → IsPermutation (map encode ys) rows → IsPermutation xs ys
   same_typed xs ys rows one two =
       subst (λ zs. IsPermutation zs ys) (decoded xs) (subst (IsPermutation (map decode (map encode xs))) (decoded ys)

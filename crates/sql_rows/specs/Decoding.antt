@@ -1,4 +1,4 @@
--- What the values of a row give: the typed row that stands so.
+-- The typed row that the values of a row represent.
 use Rattle.std.specs.Prelude.{ℕ, zero, suc, pos, Bool, false, not, List, []}
 use Rattle.std.specs.Ordering.{int_eq}
 use Rattle.sqlite.specs.declared.types.Value.{Value}

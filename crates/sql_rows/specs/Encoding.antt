@@ -1,4 +1,4 @@
--- How a row stands in its table: its values, and its rowid first where that is a column of it.
+-- The values of a row in its table, preceded by the rowid if a column is an alias of the rowid.
 use Rattle.std.specs.Prelude.{ℕ, pos, Bool, true, false, [], ◌∷◌}
 use Rattle.sqlite.specs.declared.types.Value.{Value}
 use Rattle.sqlite.specs.declared.types.Value.TheVariants.{Null, Int, Text, Blob}
@@ -16,7 +16,7 @@ use Rattle.table_rows.specs.Tables.{StoredBatch, StoredBlank, StoredGrouping, St
 abbrev pub number : ℕ → Value
 number n = Int (pos n)
 
--- ---- numbers that stand for states and marks (this project's profile)
+-- ---- numbers for states and flags (this project's profile)
 
 abbrev pub flag : Bool → ℕ
 flag false = 0
@@ -39,7 +39,7 @@ enc_code enc.Plain = 0
 enc_code enc.All = 1
 enc_code enc.Mixed = 2
 
--- ---- rows; an id that is the rowid stands in its place, and its own column is NULL
+-- ---- rows; an id that is the rowid is in the position of the rowid, and its own column is NULL
 
 abbrev pub product_row : Product → Row
 product_row p = Text p.code ∷ number p.max ∷ number p.low ∷ number (flag p.check) ∷ []

@@ -1,4 +1,4 @@
--- When a database holds the rows of our tables, and nothing beside them.
+-- A database with given rows in the tables of the current schema, and nothing else.
 use Rattle.std.specs.Prelude.{◌≡◌, Bool, true, false, List, [], ◌∷◌, map, drop, IsPermutation}
 use Rattle.std.specs.List.{AllByRecursion}
 use Rattle.sqlite.specs.Effect.{Database, IsDatabase}
@@ -11,7 +11,7 @@ use Rattle.sql_tables.specs.Tables.{batch_table, blank_table, grouping_table, lo
 use Rattle.table_rows.specs.Tables.{Tables}
 use Rattle.sql_rows.specs.Encoding.{batch_row, blank_row, grouping_row, lot_row, mark_row, product_row, record_row, remake_row, reply_row, session_row, word_row}
 
--- a table with the rows in it; they are given with their rowids, or without
+-- a table with its rows, given with or without their rowids
 pub record Filled : Type 0 where
   pub table : Table
   pub by_rowid : Bool
@@ -20,11 +20,11 @@ pub record Filled : Type 0 where
 abbrev pub by_rowid : Table → List Row → Filled
 by_rowid table rows = record { table = table; by_rowid = true; rows = rows }
 
--- SQLite has chosen the rowids
+-- a table whose rowids were chosen by SQLite
 abbrev pub unnumbered : Table → List Row → Filled
 unnumbered table rows = record { table = table; by_rowid = false; rows = rows }
 
--- all our tables, in their order
+-- all tables of the current schema, in their order
 abbrev pub filled : Tables → List Filled
 filled t =
     by_rowid version_table (version_row ∷ [])
@@ -45,17 +45,18 @@ abbrev pub given_rows : Bool → List Row → List Row
 given_rows true stored = stored
 given_rows false stored = map (drop 1) stored
 
--- the table's tree has these rows, in any order, under rowids of which no two are one
+-- The tree of the table has exactly these rows, in any order, and all rowids are different.
 pub record IsFilled (x : Filled) (trees : Trees) : Type 0 where
   pub rows : IsPermutation x.rows (given_rows x.by_rowid (trees x.table.tree))
   pub apart : AreApart (trees x.table.tree)
 
--- the database has just our tables, as its own catalog lists them, with just these rows
+-- The database has exactly the tables of the current schema, as its catalog lists them, with
+-- exactly the rows of `t`.
 pub record IsImage (t : Tables) (db : Database) : Type 0 where
   pub ours : db.schema ≡ our_schema
   pub is_database : IsDatabase db
   pub each : AllByRecursion (λ x. IsFilled x db.trees) (filled t)
 
--- whatever rows the one has, the other has these of them
+-- If the old database has the rows of any tables `t`, the new one has the rows of `change t`.
 abbrev pub Moves : (Tables → Tables) → Database → Database → Type 0
 Moves change old new = (t : Tables) → IsImage t old → IsImage (change t) new

@@ -1,4 +1,4 @@
--- Many rows of one table, put in by a part of a transaction.
+-- Many rows of one table, inserted by a part of a transaction.
 use Rattle.std.specs.Prelude.{◌≡◌, ◌++◌, IsTrue, List, OnOk, Result}
 use Rattle.sqlite.specs.Effect.{Database}
 use Rattle.sqlite.specs.State.{HasCleanDisk, KeepsCommit, State}
@@ -13,17 +13,18 @@ abbrev pub with_groupings : List StoredGrouping → Tables → Tables
 with_groupings groupings t = record t { groupings = groupings ++ t.groupings }
 
 module _ (R : Database → Database → Type 0) where
-  -- `R` relates the database before to the one after; nothing is committed, and a transaction goes on
+  -- The database changes by `R`, nothing is committed, and an open transaction stays open.
   pub record GoesOn (old new : State) : Type 0 where
     pub made : R old.now new.now
     pub committed : new.committed ≡ old.committed
     pub inside : IsTrue old.in_transaction → IsTrue new.in_transaction
 
-  -- the same where each call went well, and in each case nothing is committed
+  -- If every call succeeds, the database changes by `R` and an open transaction stays open. Nothing
+  -- is committed in either case.
   pub record WroteMany {X : Type 0} (old new : State) (result : Result X Error) : Type 0 where
     pub well : OnOk result (GoesOn old new)
     pub kept : KeepsCommit old new
 
--- rows change so
+-- The rows change by `change`.
 abbrev pub WritesMany : {T : Type 0} → (Tables → Tables) → State → State → Result T Error → Type 0
 WritesMany change old new result = HasCleanDisk new → WroteMany (Moves change) old new result

@@ -1,2 +1,2 @@
-//! When a database of our tables holds rows.
+//! Defines when a database has given rows in the tables of the current schema.
 #![tactic(auto)]

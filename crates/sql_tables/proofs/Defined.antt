@@ -1,4 +1,4 @@
--- The texts of each version define its tables and its indices.
+-- The texts of each version define its tables and its indexes.
 use Rattle.std.proofs.Common.{◌≡◌, ◌≢◌, List, [], ◌∷◌, refl, subst}
 use Rattle.std.specs.Prelude.{fold}
 use Rattle.sqlite.specs.Change.{created}
@@ -48,7 +48,7 @@ two_defined =
     more_defined earlier_texts (mark_text ∷ version_two_text ∷ []) earlier_tables (mark_at 0 ∷ numbered_version_at 2 0 ∷ []) no_schema earlier_defined
     (((refl, refl), refl), (((refl, refl), refl), tt))
 
--- ---- our own
+-- ---- version 3
 
 abbrev our_indices : List Keyed
 our_indices =
@@ -91,7 +91,7 @@ indices_defined = (((refl, refl), refl), (((refl, refl), refl), (((refl, refl), 
 all_made : fold with_index with_tables our_indices ≡ our_schema
 all_made = refl
 
--- ---- what they make
+-- ---- the schema that the texts create
 
 nothing : (db : Database) → db.schema ≡ no_schema → IsEmptyAt no_schema db
 nothing db none = record { schema_is = none; empty = tt }

@@ -1,4 +1,4 @@
--- Statements one after the other.
+-- Statements that run one after the other.
 use Rattle.std.proofs.Common.{◌≡◌, ◌≢◌, ◌++◌, ◌∙◌, ℕ, List, [], ◌∷◌, map, Result, Ok, Err, IsErr, IsTrue, subst, refl, sym}
 use Rattle.sqlite.specs.Effect.{Database}
 use Rattle.sqlite.specs.State.{KeepsCommit, State}
@@ -8,7 +8,7 @@ use Rattle.sql_base.specs.Ends.{Inside, Wrote}
 use Rattle.sql_tables.specs.Each.{Each, WentOn, WroteEach}
 
 module _ {X : Type 0} (R : X → Database → Database → Type 0) where
-  -- those of one list, and then those of another
+  -- the statements of one list, and then the statements of another
   each_then : (items more : List X) (old mid new : Database) → Each R items old mid → Each R more mid new → Each R (items ++ more) old new
   each_then [] more old mid new same made = subst (λ d. Each R more d new) same made
   each_then (x ∷ items) more old mid new first made = (first.0, first.1, each_then items more first.0 mid new first.2 made)
@@ -18,7 +18,7 @@ module _ {X : Type 0} (R : X → Database → Database → Type 0) where
     pub first : Each R items old mid
     pub rest : Each R more mid new
 
-  -- of a list in two parts
+  -- a list in two parts
   pub parts : (items more : List X) (old new : Database) → Each R (items ++ more) old new → Parts items more old new
   parts [] more old new made = record { mid = old; first = refl; rest = made }
   parts (x ∷ items) more old new made =
@@ -38,7 +38,7 @@ module _ {X : Type 0} (R : X → Database → Database → Type 0) where
     inside = inside_then items more a b c one two;
   }
 
-  -- one more
+  -- one more statement
   pub one_further : (items more : List X) (x : X) (a b c : State) → more ≡ items ++ x ∷ [] → WentOn R items a b → Inside (R x) b c → WentOn R more a c
   one_further items more x a b c is so_far it =
       subst (λ xs. WentOn R xs a c) (sym is) (went_then items (x ∷ []) a b c so_far
@@ -49,12 +49,12 @@ module _ {X : Type 0} (R : X → Database → Database → Type 0) where
     wrote_then items more a b c y (Ok z) one two = record { well = went_then items more a b c one.well two.well; kept = keeps_then a b c one.kept two.kept }
     wrote_then items more a b c y (Err e) one two = record { well = tt; kept = keeps_then a b c one.kept two.kept }
 
-    -- an error on the way
+    -- an error in one of the statements
     pub failed_each : (items : List X) (a b : State) (r : Result Y Error) → IsErr r → KeepsCommit a b → WroteEach R items a b r
     failed_each items a b (Ok y) is kept = absurd (cc)
     failed_each items a b (Err e) is kept = record { well = tt; kept = kept }
 
--- what the statements of texts make, where each item of the list holds one of them
+-- the effect of the statements of `texts`, if each item of the list has one of the texts
 module _ {X : Type 0} (sql : X → List ℕ) (R : List ℕ → Database → Database → Type 0) where
   each_text : (items : List X) (old new : Database) → Each (λ x. R (sql x)) items old new → Each R (map sql items) old new
   each_text [] old new same = same
@@ -64,7 +64,7 @@ module _ {X : Type 0} (sql : X → List ℕ) (R : List ℕ → Database → Data
   some_item [] some = λ none. some refl
   some_item (x ∷ items) some = λ none. cc
 
-  -- all of them
+  -- the effect of all statements
   pub all_wrote : {Y : Type 0} (T : Database → Database → Type 0) (texts : List (List ℕ)) (items : List X) (a b : State) (r : Result Y Error) → map sql items ≡ texts → texts ≢ [] → (Each R texts a.now b.now → T a.now b.now)
       → WroteEach (λ x. R (sql x)) items a b r → Wrote T a b r
   all_wrote T texts items a b (Ok y) is some all it =

@@ -1,4 +1,4 @@
--- Tables and indices come one after the other, and no row.
+-- Tables and indexes are created one after the other, and no row is inserted.
 use Rattle.std.proofs.Common.{◌≡◌, ◌++◌, ℕ, List, [], ◌∷◌, false, Ok, Some, slice_get, ap, subst, sym, ◌∙◌}
 use Rattle.std.specs.Prelude.{fold}
 use Rattle.std.specs.List.{AllByRecursion}
@@ -34,7 +34,8 @@ one_more (u ∷ tables) t trees empty new = (empty.0, one_more tables t trees em
 abbrev all_four : {A B C D : Type 0} → A → B → C → D → A × (B × (C × D))
 all_four a b c d = (a, (b, (c, d)))
 
--- all that shows that a text defines a table at a schema, so that `refl` computes it at once
+-- Everything that shows that `sql` defines table `t` in the schema `s`, in a form that `refl`
+-- computes at once.
 abbrev IsRead : List ℕ → Schema → Table → Type 0
 IsRead sql s t =
     IsPlain (understood s sql)
@@ -43,7 +44,7 @@ IsRead sql s t =
 read_defines : (sql : List ℕ) (s : Schema) (t : Table) → IsRead sql s t → Defines sql s t
 read_defines sql s t it = record { command = ap (λ x. x.0) it.1; text = ap (λ x. x.1.0) it.1; plain = it.0; table_is = ap (λ x. x.1.1.0) it.1; uncounted = ap (λ x. x.1.1.1) it.1 }
 
--- the texts define these tables, one each, after those of the schema
+-- The texts define these tables, one table each, added to the tables of the schema.
 abbrev pub AreDefined : Schema → List (List ℕ) → List Table → Type 0
 AreDefined s [] [] = Unit {0}
 AreDefined s [] (t ∷ ts) = ⊥
@@ -70,9 +71,9 @@ all_grow [] (t ∷ ts) s old new are made from = absurd are
 all_grow (sql ∷ texts) [] s old new are made from = absurd are
 all_grow (sql ∷ texts) (t ∷ ts) s old new are made from = all_grow texts ts (created s t) made.0 new are.1 made.2 (grows sql s t old made.0 (read_defines sql s t are.0) made.1 from)
 
--- ---- indices
+-- ---- indexes
 
--- an index of the table at a place
+-- an index of the table at position `at`
 pub record Keyed : Type 0 where
   pub at : ℕ
   pub table : Table

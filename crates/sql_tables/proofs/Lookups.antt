@@ -1,4 +1,4 @@
--- What is found in a list stands there, and is found in a part of the list.
+-- An element that is found in a list is in the list, and is also found in a part of the list.
 use Rattle.std.proofs.Common.{◌≡◌, ℕ, zero, suc, ◌+◌, List, [], ◌∷◌, filter, Bool, true, Some, slice_get, inl, inr, ap, subst, ◌∙◌, arith}
 use Rattle.std.specs.Prelude.{find}
 use Rattle.std.specs.List.{position_from, AllByRecursion}
@@ -32,7 +32,7 @@ all_at P [] at x all is = absurd (cc)
 all_at P (y ∷ ys) zero x all is = let e : y ≡ x = cc in subst P e all.0
 all_at P (y ∷ ys) (suc at) x all is = all_at P ys at x all.1 is
 
--- what is found is found among those that stay, if it stays
+-- An element that is found is also found among the elements that satisfy `g`, if it satisfies `g`.
 pub find_filter : {X : Type 0} (f g : X → Bool) (xs : List X) (x : X) → find f xs ≡ Some x → g x ≡ true → find f (filter g xs) ≡ Some x
 find_filter f g [] x h stays = absurd (cc)
 find_filter f g (y ∷ ys) x h stays = elim (cases_Bool (f y)) [

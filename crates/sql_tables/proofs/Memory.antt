@@ -1,4 +1,4 @@
--- In memory there is no disk that fails.
+-- A database in memory has no disk that can fail.
 use Rattle.std.proofs.Common.{◌≡◌, Err, IfErr, Ok, Result, arith, false, subst, sym}
 use Rattle.std.specs.Result.{IsErrAnd}
 use Rattle.sqlite.specs.Held.{Held, state}
@@ -17,7 +17,7 @@ module _ (old : Held MemStore) where
   no_disk_had new (Ok x) had = tt
   no_disk_had new (Err e) had = no_disk had.0 e had.1
 
--- what the exit of a `?` returns
+-- the result if `?` returns early with an error
 pub unblamed : {X : Type 0} (e : Error) (r : Result X Error) → IsErrAnd r (λ y. y ≡ e) → is_disk_error e ≡ false → IfErr r (λ y. is_disk_error y ≡ false)
 unblamed e (Ok x) is none = tt
 unblamed e (Err y) is none = subst (λ z. is_disk_error z ≡ false) (sym is) none

@@ -1,4 +1,4 @@
--- What stands somewhere in the schema of a database is found there by its name and by its number.
+-- A table in the schema of a database is found by its name and by its tree number.
 use Rattle.std.proofs.Common.{◌≡◌, ◌==◌, ◌<◌, ◌^◌, nat_le, ℕ, zero, suc, List, [], ◌∷◌, length, Bool, true, false, None, Some, slice_index_or, inl, inr, refl, sym, ap, subst, arith}
 use Rattle.std.specs.Prelude.{find}
 use Rattle.std.specs.List.{AllByRecursion, AllZip}
@@ -17,7 +17,7 @@ use Rattle.sql_tables.specs.Alike.{AreAmong, HasJust, IsOneOf}
 use Rattle.sql_tables.specs.Finds.{Finds}
 use Rattle.sql_tables.specs.Ours.{AreThere, Stands}
 
--- ---- the first of its own
+-- ---- the first element with a key
 
 module _ {X : Type 0} (key : X → X → Bool) (x : X) (self : key x x ≡ true) where
   missed : (ys : List X) → Has ys x → (P : X → Type 0) → AllByRecursion P ys → P x
@@ -25,7 +25,7 @@ module _ {X : Type 0} (key : X → X → Bool) (x : X) (self : key x x ≡ true)
   missed (y ∷ ys) (inl same) P all = subst P (sym same) all.0
   missed (y ∷ ys) (inr more) P all = missed ys more P all.1
 
-  -- where no two have one key, an element is the first of its own
+  -- If no two elements have the same key, every element is the first with its key.
   pub first_of : (xs : List X) → IsAscending (λ a b. key a b ≡ false) xs → Has xs x → find (λ u. key u x) xs ≡ Some x
   first_of [] apart has = absurd has
   first_of (y ∷ ys) apart (inl same) = let e : key y x ≡ true = subst (λ (z : X). key z x ≡ true) same self in rw e (ap Some (sym same))
@@ -37,7 +37,7 @@ no_view s name none = rw none refl
 pub same_number : (n : ℕ) → (n == n) ≡ true
 same_number n = grind (arith, nat_tests)
 
--- ---- numbers of trees are low
+-- ---- tree numbers are below 2^31
 
 all_low : (rows : List Row) (ts : List Table) → AllZip IsTableRow rows ts → AllByRecursion (λ t. nat_le (2 ^ 31) t.tree ≡ false) ts
 all_low [] [] all = tt
@@ -50,7 +50,7 @@ holds_of P [] x all has = absurd has
 holds_of P (y ∷ ys) x all (inl same) = subst P (sym same) all.0
 holds_of P (y ∷ ys) x all (inr more) = holds_of P ys x all.1 more
 
--- ---- lists of which each is one of another
+-- ---- lists whose elements are all in another list
 
 pub has_at : {X : Type 0} (xs : List X) (k : ℕ) (x : X) → k < length xs → slice_index_or xs k x ≡ x → Has xs x
 has_at [] k x low is = absurd (omega arith)
@@ -69,7 +69,7 @@ pub each_one : (others xs : List Table) → AreAmong xs others → AllByRecursio
 each_one others [] all = tt
 each_one others (x ∷ xs) all = (among others (x ∷ xs) x all 0 (omega arith) refl, each_one others xs (rest others x xs all))
 
--- the one of them that it is
+-- the table of `others` that is equal to `t` except for its tree number
 pub record IsAs (others : List Table) (t : Table) : Type 0 where
   pub other : Table
   pub has : Has others other
@@ -79,7 +79,7 @@ pub as_one : (others : List Table) (t : Table) → IsOneOf others t → IsAs oth
 unfolding IsOneOf
 as_one others t h = record { other = h.1; has = has_at others h.0 h.1 h.2 h.3; same = h.4 }
 
--- ---- a table that stands there
+-- ---- a table in the schema
 
 module _ (db : Database) (sound : IsDatabase db) (trees : IsAscending (λ a b. (a.tree == b.tree) ≡ false) db.schema.tables) (none : db.schema.views ≡ []) where
   placed : (t : Table) → Has db.schema.tables t → Finds db.schema t
@@ -100,6 +100,6 @@ module _ (db : Database) (sound : IsDatabase db) (trees : IsAscending (λ a b. (
   all_stand [] all = tt
   all_stand (x ∷ xs) all = (stands x all.0, all_stand xs all.1)
 
--- each of the tables that the schema has just is found in it
+-- Every table of `ours` is found in a schema that has just these tables.
 pub ours_in : (db : Database) (ours : Schema) → IsDatabase db → HasJust db.schema ours → AreThere db.schema ours.tables
 ours_in db ours sound h = all_stand db sound h.apart h.views ours.tables (each_one db.schema.tables ours.tables h.all)

@@ -1,4 +1,4 @@
--- What the INSERT of the version does.
+-- The effect of the INSERT into `version`.
 use Rattle.std.proofs.Common.{◌≡◌, ◌≢◌, ◌==◌, drop, ℕ, List, [], ◌∷◌, length, map, pos, Ok, inl, inr, refl, ◌∙◌}
 use Rattle.std.specs.List.{AllByRecursion}
 use Rattle.std.proofs.lemmas.Bool.{cases_Bool}
@@ -35,7 +35,7 @@ plain : IsPlain (understood our_schema add_version_text)
 unfolding understood everything
 plain = (refl, refl)
 
--- no foreign key of ours acts on another table
+-- No foreign key of the current schema acts on another table.
 pub none_acts : (tree : ℕ) (olds news : List Row) → works our_schema Enforced 0 tree olds news ≡ []
 unfolding same_name
 none_acts tree olds news = elim (cases_Bool (length news == 0)) [ inl e ↦ rw e refl | inr e ↦ rw e refl ]
@@ -43,7 +43,7 @@ none_acts tree olds news = elim (cases_Bool (length news == 0)) [ inl e ↦ rw e
 cast_are : map (cast_row version_table) (version_row ∷ []) ≡ version_row ∷ []
 cast_are = rw (cast_null, cast_int (pos 1), cast_int (pos 3)) refl
 
--- what is spared is as empty as it was
+-- Empty tables that the statement doesn't change are still empty.
 spared : (tables : List Table) (old new : Trees) → AllByRecursion (λ t. t.tree ≢ 0 → new t.tree ≡ old t.tree) tables → AllByRecursion (λ t. t.tree ≢ 0) tables
     → AllByRecursion (λ t. old t.tree ≡ []) tables → AllByRecursion (λ t. new t.tree ≡ []) tables
 spared [] old new same differ empty = tt

@@ -1,4 +1,4 @@
--- When a schema has just these tables, whatever their order and their numbers are.
+-- Defines when a schema has just the given tables, in any order and with any tree numbers.
 use Rattle.std.specs.Prelude.{◌≡◌, ◌==◌, ◌||◌, not, false, List, [], All, Any, IsTrue}
 use Rattle.std.specs.List.{AllByRecursion}
 use Rattle.sqlite_catalog.specs.Change.{is_reserved}
@@ -8,32 +8,32 @@ use Rattle.sqlite_schema.specs.declared.schema.Table.{Table}
 use Rattle.sqlite_trees.specs.Tree.{IsAscending}
 use Rattle.sql_tables.specs.Bare.{bare}
 
--- it is one of them, but for its number
+-- The table `t` is equal to one of `others`, except for its tree number.
 unfoldable pub IsOneOf : List Table → Table → Type 0
 IsOneOf others t = Any (λ o. bare t ≡ bare o) others
 
--- each of these is one of those
+-- Every table of `tables` is one of `others`, except for its tree number.
 unfoldable pub AreAmong : List Table → List Table → Type 0
 AreAmong tables others = All (IsOneOf others) tables
 
--- it has another number than each of these
+-- The tree number of `t` is different from the tree numbers of all `others`.
 abbrev pub IsApart : Table → List Table → Type 0
 IsApart t others = AllByRecursion (λ u. (t.tree == u.tree) ≡ false) others
 
--- no two have one number
+-- All tree numbers are different.
 abbrev pub AreApart : List Table → Type 0
 AreApart tables = IsAscending (λ t u. (t.tree == u.tree) ≡ false) tables
 
--- the index is no key, or it is that of a key that its table declares: names that begin so are
--- SQLite's own
+-- The index isn't unique, or it belongs to a key that its table declares. SQLite reserves the names
+-- of such indexes.
 abbrev pub is_no_further_key : Index → Type 0
 is_no_further_key i = IsTrue (not i.is_unique || is_reserved i.name)
 
 unfoldable pub HasNoFurtherKey : List Index → Type 0
 HasNoFurtherKey indexes = All is_no_further_key indexes
 
--- the tables are these, in any order and each under a number of its own, with no key beside theirs,
--- and no view or trigger
+-- The schema `s` has exactly the tables of `ours`, in any order and with different tree numbers. It
+-- has no additional key, no view and no trigger.
 pub record HasJust (s ours : Schema) : Type 0 where
   pub each : AreAmong s.tables ours.tables
   pub all : AreAmong ours.tables s.tables

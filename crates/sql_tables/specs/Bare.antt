@@ -1,4 +1,4 @@
--- A table without its tree's number.
+-- A table without its tree number.
 use Rattle.sqlite_schema.specs.declared.schema.Table.{Table}
 
 abbrev pub bare : Table → Table

@@ -1,5 +1,5 @@
--- Statements that run one after the other, in an open transaction. `R` is what the statement of an
--- item makes of the database.
+-- Statements that run one after the other in an open transaction. `R` is the effect of the
+-- statement of an item on the database.
 use Rattle.std.specs.Prelude.{◌≡◌, ◌≢◌, List, [], ◌∷◌, IsTrue, OnOk, Result}
 use Rattle.sqlite.specs.Effect.{Database}
 use Rattle.sqlite.specs.State.{KeepsCommit, State}
@@ -10,7 +10,7 @@ module _ {X : Type 0} (R : X → Database → Database → Type 0) where
   Each [] old new = new ≡ old
   Each (x ∷ more) old new = (mid : Database) × R x old mid × Each more mid new
 
-  -- these ran, nothing is committed, and a transaction goes on
+  -- The statements of `items` ran, nothing is committed, and an open transaction stays open.
   pub record WentOn (items : List X) (old new : State) : Type 0 where
     pub made : Each items old.now new.now
     pub committed : new.committed ≡ old.committed
@@ -18,7 +18,7 @@ module _ {X : Type 0} (R : X → Database → Database → Type 0) where
     pub goes_on : IsTrue old.in_transaction → IsTrue new.in_transaction
     pub inside : items ≢ [] → IsTrue new.in_transaction × IsTrue old.is_open
 
-  -- the same where each call went well, and in each case nothing is committed
+  -- If every call succeeds, the statements of `items` ran. Nothing is committed in either case.
   pub record WroteEach {Y : Type 0} (items : List X) (old new : State) (result : Result Y Error) : Type 0 where
     pub well : OnOk result (WentOn items old new)
     pub kept : KeepsCommit old new

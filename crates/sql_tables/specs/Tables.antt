@@ -1,4 +1,4 @@
--- The tables that the store keeps its facts and replies in, and the schema that these make in their
+-- The tables in which the store keeps its facts and replies, and the schema that they form in this
 -- order.
 use Rattle.std.specs.Prelude.{false, List, [], ◌∷◌, Some, None, codes, ℕ, pos}
 use Rattle.sqlite.specs.declared.types.Value.TheVariants.{Int}
@@ -17,7 +17,7 @@ abbrev refers_to : List ℕ → List ℕ → List (List ℕ) → Reference
 refers_to columns parent parent_columns =
     record { columns = columns; parent = parent; parent_columns = parent_columns; on_delete = NoAction; on_update = NoAction; is_deferred = false }
 
--- a table of this name and number, of which nothing else is said
+-- a table with this name and tree number, and no columns, keys, checks or references
 abbrev plain_table : List ℕ → ℕ → Table
 plain_table name tree = record {
   name = name;
@@ -184,8 +184,9 @@ reply_table = reply_at 19
 abbrev pub mark_table : Table
 mark_table = mark_at 21
 
--- which session of a machine runs, which rows a record has and their marks, how the sessions of a
--- batch stand, and what a batch gives without its bytes: no rule, but speed
+-- The indexes only speed up reads: the running session of a machine, the rows of a record with
+-- `enc` and `tol`, the states of the sessions of a batch, and the columns of a batch without its
+-- bytes.
 abbrev pub session_running_at : ℕ → Index
 session_running_at tree = record { name = codes "session_running"; tree = tree; table = 12; columns = 2 ∷ 6 ∷ []; order = plain; is_unique = false }
 

@@ -1,5 +1,5 @@
--- The texts that make the tables of each version (SQLite's CREATE TABLE with STRICT), those that
--- make our indices, and the INSERT of the version.
+-- The texts that create the tables of each schema version (CREATE TABLE with STRICT of SQLite), the
+-- texts that create the indexes of version 3, and the INSERT into `version`.
 use Rattle.std.specs.Prelude.{List, [], ◌∷◌, ◌++◌, ℕ, codes}
 use Rattle.sql_tables.specs.declared.versions.Version.{Version}
 use Rattle.sql_tables.specs.declared.versions.Version.TheVariants.{One, Two, Three}
@@ -67,7 +67,7 @@ batch_named_text = codes "CREATE INDEX batch_named ON batch (id, name)"
 abbrev pub add_version_text : List ℕ
 add_version_text = codes "INSERT INTO version (id, number) VALUES (1, 3)"
 
--- the tables that versions 1 and 2 share
+-- the tables that are the same in versions 1 and 2
 abbrev pub earlier_texts : List (List ℕ)
 earlier_texts = product_text ∷ lot_text ∷ batch_text ∷ record_text ∷ session_text ∷ word_text ∷ blank_text ∷ remake_text ∷ reply_text ∷ unmixed_grouping_text ∷ []
 
@@ -77,7 +77,7 @@ our_table_texts = version_text ∷ product_text ∷ lot_text ∷ batch_text ∷ 
 abbrev pub our_index_texts : List (List ℕ)
 our_index_texts = session_running_text ∷ grouping_place_text ∷ session_stands_text ∷ batch_told_text ∷ batch_named_text ∷ []
 
--- all that makes a version, each table after those that it refers to
+-- all texts that create a version; each table follows the tables that it refers to
 abbrev pub texts_of : Version → List (List ℕ)
 texts_of One = earlier_texts ++ version_one_text ∷ []
 texts_of Two = earlier_texts ++ mark_text ∷ version_two_text ∷ []

@@ -1,5 +1,5 @@
--- The tables of each version: those of versions 1 and 2 know two encipherment marks, and version
--- 1 has no released numbers.
+-- The tables of each schema version. In versions 1 and 2, `enc` has two values, and version 1 has
+-- no released request numbers.
 use Rattle.std.specs.Prelude.{ℕ, List, [], ◌∷◌, ◌++◌, codes, fold, pos}
 use Rattle.sqlite.specs.Change.{created}
 use Rattle.sqlite.specs.Schema.{Schema}
@@ -18,18 +18,19 @@ numbered_version_at number tree = record (version_at tree) { checks = is_equal (
 abbrev pub unmixed_grouping_at : ℕ → Table
 unmixed_grouping_at tree = record (grouping_at tree) { name = codes "grouping"; checks = between 5 1 999 ∷ between 6 0 1 ∷ between 7 0 1 ∷ [] }
 
--- what versions 1 and 2 share
+-- the tables that are the same in versions 1 and 2
 abbrev pub earlier_tables : List Table
 earlier_tables = product_at 0 ∷ lot_at 0 ∷ batch_at 0 ∷ record_at 0 ∷ session_at 0 ∷ word_at 0 ∷ blank_at 0 ∷ remake_at 0 ∷ reply_at 0 ∷ unmixed_grouping_at 0 ∷ []
 
--- the tables of a version in the order in which they are made. Each gets its number then
+-- the tables of a schema version in the order of their creation, in which they get their tree
+-- numbers
 abbrev pub tables_in : Version → List Table
 tables_in One = earlier_tables ++ numbered_version_at 1 0 ∷ []
 tables_in Two = earlier_tables ++ mark_at 0 ∷ numbered_version_at 2 0 ∷ []
 tables_in Three = version_at 0 ∷ product_at 0 ∷ lot_at 0 ∷ batch_at 0 ∷ record_at 0 ∷ grouping_at 0 ∷ session_at 0 ∷ word_at 0 ∷ blank_at 0 ∷ remake_at 0 ∷ reply_at 0 ∷ mark_at 0 ∷ []
 
--- what they make in an empty database, which for our own, with their indices, is written out. The
--- order of the tables, and their numbers, are of no matter
+-- The schema that these tables form in an empty database. For version 3 it is written out, with its
+-- indexes. The order of the tables and their tree numbers don't matter.
 abbrev pub schema_of : Version → Schema
 schema_of One = fold created no_schema (tables_in One)
 schema_of Two = fold created no_schema (tables_in Two)

@@ -1,4 +1,4 @@
-//! Whether a schema has the same tables as another, whatever their order and their numbers are.
+//! Compares a schema with the tables of another, in any order and with any tree numbers.
 ghost use Rattle.std.specs.Prelude.{◌≡◌, ◌↔◌, IsTrue};
 ghost use Rattle.sqlite_catalog.specs.Change.{is_reserved};
 ghost use Rattle.sql_tables.specs.Alike.{AreAmong, AreApart, HasJust, HasNoFurtherKey, IsApart};
@@ -22,7 +22,7 @@ fn are_among(tables: &[Table], others: &[Table]) -> bool
     tables.iter().all(|table| is_one_of(table, others))
 }
 
-// Whether no other table has its number.
+// Returns `true` if no other table has the tree number of `table`.
 fn is_apart(table: &Table, others: &[Table]) -> bool
     ensures { IsTrue result ↔ IsApart table.now others.now }
 {
@@ -36,7 +36,7 @@ fn is_apart(table: &Table, others: &[Table]) -> bool
     true
 }
 
-// Whether each table has a number of its own.
+// Returns `true` if all tree numbers are different.
 fn are_apart(tables: &[Table]) -> bool
     ensures { IsTrue result ↔ AreApart tables.now }
 {
@@ -50,7 +50,7 @@ fn are_apart(tables: &[Table]) -> bool
     true
 }
 
-// Whether the name is one of those that SQLite gives.
+// Returns `true` if SQLite reserves the name for itself.
 fn is_reserved(name: &[u8]) -> bool
     ensures { result ≡ is_reserved name.now }
 {
@@ -70,8 +70,8 @@ fn has_no_further_key(indexes: &[Index]) -> bool
     indexes.iter().all(|index| is_no_further_key(index))
 }
 
-/// Whether a schema has just these tables, in any order. Further indices that are no keys are
-/// passed over; a further key, a view or a trigger is not.
+/// Returns `true` if `schema` has exactly the tables of `ours`, in any order. Additional indexes
+/// are accepted unless they are unique. A view or a trigger isn't accepted.
 pub fn has_just(schema: &Schema, ours: &Schema) -> bool
     ensures { IsTrue result ↔ HasJust schema.now ours.now }
 {

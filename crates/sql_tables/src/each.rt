@@ -1,4 +1,4 @@
-//! Statements that run one after the other, in an open transaction.
+//! Runs statements one after the other in an open transaction.
 ghost use Rattle.std.specs.Prelude.{◌≡◌, ◌++◌};
 ghost use Rattle.sqlite.specs.Held.{state};
 ghost use Rattle.sqlite.specs.State.{HasCleanDisk, Survives};
@@ -7,7 +7,7 @@ ghost use Rattle.sql_tables.specs.Each.{WroteEach};
 
 use sqlite::{Alter, Error, Transaction};
 
-/// A statement that each item of a list stands for.
+/// A statement for each item of a list.
 pub trait Runs<X> {
     ghost use Rattle.std.specs.Prelude.{◌≡◌};
     ghost use Rattle.sqlite.specs.Effect.{Database};
@@ -16,13 +16,14 @@ pub trait Runs<X> {
     ghost use Rattle.sql_base.specs.Causes.{ReportsCause};
     ghost use Rattle.sql_base.specs.Ends.{Wrote};
 
-    /// What the statement of an item makes of the database.
+    /// The effect of the statement of an item on the database.
     ghost makes: { X → Database → Database → Type 0 };
 
-    /// Holds where it reports an error of the disk only for its cause.
+    /// The condition under which `run` reports a disk error only if the disk has failed or refused
+    /// an operation. The default ⊥ promises nothing.
     ghost explains: { Type 0 } = { ⊥ };
 
-    /// Runs the statement of an item. A crash leaves nothing of it.
+    /// Runs the statement of `item`. A crash leaves no trace of it.
     fn run<S: Alter>(tx: &mut Transaction<'_, S>, item: &X) -> Result<usize, Error>
         ensures same_reference { tx.new.conn.ghost_name ≡ tx.old.conn.ghost_name }
         ensures made { HasCleanDisk (state S.Store tx.new.conn.now)
@@ -35,8 +36,8 @@ pub trait Runs<X> {
             (state S.Store tx.new.conn.now) result };
 }
 
-/// Runs the statement of each item, one after the other, up to the first error. A crash leaves
-/// nothing of it.
+/// Runs the statement of each item, one after the other, up to the first error. A crash leaves no
+/// trace of them.
 pub fn run_each<R: Runs<X>, X, S: Alter>(
     tx: &mut Transaction<'_, S>,
     items: &[X],
@@ -56,8 +57,8 @@ pub fn run_each<R: Runs<X>, X, S: Alter>(
     Ok(())
 }
 
-/// Runs the statements of one list, and then those of another, up to the first error. A crash
-/// leaves nothing of it.
+/// Runs the statements of `first` and then those of `rest`, up to the first error. A crash leaves
+/// no trace of them.
 pub fn run_both<R: Runs<X>, X, S: Alter>(
     tx: &mut Transaction<'_, S>,
     first: &[X],

@@ -1,5 +1,5 @@
-//! The tables that a store over SQLite keeps its facts and its replies in: they are made in an
-//! empty database, and distinguished from others.
+//! Creates the tables in which a store over SQLite keeps its facts and replies, and determines the
+//! version of existing tables.
 #![tactic(auto)]
 
 mod alike;

@@ -1,4 +1,4 @@
-//! The tables are made in an empty database.
+//! Creates the tables in an empty database.
 ghost use Rattle.std.specs.Prelude.{◌≡◌, ◌↔◌, ⊤, false, IfErr, IsTrue, OnErr, OnOk};
 ghost use Rattle.sqlite.specs.Held.{state};
 ghost use Rattle.sqlite.specs.State.{HasCleanDisk, Survives, is_disk_error};
@@ -16,7 +16,7 @@ use sql_base::{UnitOfWork, make, transact};
 use sqlite::{Alter, Connection, Error, MemStore, Transaction};
 use sqlite_schema::schema::Schema;
 
-// The statements that make tables and indices, by their texts.
+// Statements that create tables and indexes, given by their texts.
 struct Making;
 
 impl<'a> Runs<&'a str> for Making {
@@ -29,7 +29,7 @@ impl<'a> Runs<&'a str> for Making {
     }
 }
 
-// Makes the tables and the indices of a version.
+// Creates the tables and indexes of `version`.
 fn make_version<S: Alter>(tx: &mut Transaction<'_, S>, version: Version) -> Result<(), Error>
     ensures same_reference { tx.new.conn.ghost_name ≡ tx.old.conn.ghost_name }
     ensures made { HasCleanDisk (state S.Store tx.new.conn.now)
@@ -44,7 +44,7 @@ fn make_version<S: Alter>(tx: &mut Transaction<'_, S>, version: Version) -> Resu
     run_both::<Making, &str, S>(tx, first, rest)
 }
 
-// Returns the version of the tables, in an open transaction.
+// Inserts the row of `version`, in an open transaction.
 fn add_version<S: Alter>(tx: &mut Transaction<'_, S>) -> Result<usize, Error>
     ensures same_reference { tx.new.conn.ghost_name ≡ tx.old.conn.ghost_name }
     ensures made { HasCleanDisk (state S.Store tx.new.conn.now)
@@ -58,8 +58,8 @@ fn add_version<S: Alter>(tx: &mut Transaction<'_, S>) -> Result<usize, Error>
     tx.execute("INSERT INTO version (id, number) VALUES (1, 3)", &[])
 }
 
-/// Makes the tables and the indices and returns their version, in an open transaction. A crash
-/// leaves nothing of it.
+/// Creates the tables and indexes of the current schema and inserts the row of `version`, in the
+/// open transaction `tx`. A crash leaves no trace of them.
 pub fn make_all<S: Alter>(tx: &mut Transaction<'_, S>) -> Result<(), Error>
     ensures same_reference { tx.new.conn.ghost_name ≡ tx.old.conn.ghost_name }
     ensures made { HasCleanDisk (state S.Store tx.new.conn.now)
@@ -75,7 +75,7 @@ pub fn make_all<S: Alter>(tx: &mut Transaction<'_, S>) -> Result<(), Error>
     Ok(())
 }
 
-// All that `make_all` makes.
+// The work of `make_all`.
 struct All;
 
 impl UnitOfWork for All {
@@ -88,8 +88,8 @@ impl UnitOfWork for All {
     }
 }
 
-/// Makes the tables in one transaction, and returns their version. A crash leaves what it could
-/// leave before, or all of it.
+/// Creates the tables and indexes of the current schema and inserts the row of `version`, in one
+/// transaction. After a crash the database is as it could be before the call, or has all of them.
 pub fn make_tables<S: Alter>(conn: &mut Connection<S>) -> Result<(), Error>
     requires { conn.old.in_transaction ≡ false }
     ensures ok { HasCleanDisk (state S.Store conn.new) → OnOk result
@@ -105,8 +105,8 @@ pub fn make_tables<S: Alter>(conn: &mut Connection<S>) -> Result<(), Error>
     transact(conn, &All)
 }
 
-// Makes the tables and the indices of a version in memory, in one transaction. There is no disk, so
-// no error is one of the disk.
+// Creates the tables and indexes of `version` in memory, in one transaction. A database in memory
+// has no disk, so an error is never a disk error.
 pub(crate) fn make_in_memory(conn: &mut Connection<MemStore>, version: Version) -> Result<(), Error>
     requires { conn.old.in_transaction ≡ false }
     ensures made { OnOk result (MakesVersion version (state over_memory conn.old).now
@@ -118,7 +118,8 @@ pub(crate) fn make_in_memory(conn: &mut Connection<MemStore>, version: Version) 
     tx.commit()
 }
 
-/// Whether a database has our tables, as `make_tables` makes them, and nothing beside them.
+/// Returns `true` if the database has exactly the tables and indexes that `make_tables` creates,
+/// and nothing else.
 pub fn has_our_tables<S: Alter>(conn: &Connection<S>, ours: &Schema) -> bool
     requires { ours.now ≡ our_schema }
     ensures { IsTrue result ↔ ((state S.Store conn.now).now.schema ≡ our_schema) }

@@ -1,4 +1,4 @@
-//! The parts of a schema.
+//! Compares the parts of a schema.
 ghost use Rattle.std.specs.Prelude.{◌≡◌, ◌↔◌, IsTrue};
 ghost use Rattle.sql_tables.specs.Bare.{bare};
 
@@ -59,7 +59,7 @@ impl Same for Stamps {
     }
 }
 
-/// Whether two tables are one but for the number of their trees.
+/// Returns `true` if two tables are equal except for their tree numbers.
 pub fn are_same_but_tree(a: &Table, b: &Table) -> bool
     ensures { IsTrue result ↔ (bare a.now ≡ bare b.now) }
 {
@@ -90,8 +90,8 @@ impl Same for Schema {
     }
 }
 
-/// Whether the two are one schema. Texts that define the same part in other words, or that stand in
-/// other white space, are one.
+/// Returns `true` if the two schemas are equal. Different words or white space in the texts of
+/// tables and indexes make no difference.
 pub(crate) fn are_same(a: &Schema, b: &Schema) -> bool
     ensures { IsTrue result ↔ (a.now ≡ b.now) }
 {

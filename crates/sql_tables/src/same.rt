@@ -1,15 +1,15 @@
-//! Values that are compared part by part.
+//! Compares values part by part.
 ghost use Rattle.std.specs.Prelude.{◌≡◌, ◌↔◌, IsTrue};
 
 use sqlite_items::Items;
 use sqlite_value::keys::Order;
 use sqlite_value::value::Bytes;
 
-/// What can be the same as another.
+/// A type whose values can be compared.
 pub(crate) trait Same {
     ghost use Rattle.std.specs.Prelude.{◌≡◌, ◌↔◌, IsTrue};
 
-    /// Whether it is the same as the other.
+    /// Returns `true` if `self` and `other` are equal.
     fn same(&self, other: &Self) -> bool
         ensures { IsTrue result ↔ (self.now ≡ other.now) };
 }

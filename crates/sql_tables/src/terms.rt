@@ -1,4 +1,4 @@
-//! Terms, as those of checks, by what they mean.
+//! Compares terms, such as those of checks, by their meaning.
 ghost use Rattle.std.specs.Prelude.{◌≡◌, ◌↔◌, ◌<◌, IsTrue, MatchOption};
 ghost use Rattle.sqlite_sql.specs.Term.{lit};
 ghost use Rattle.sqlite_schema.specs.Code.{op_term, term_to};
@@ -22,8 +22,8 @@ fn same_binary(a: BinaryOp, b: BinaryOp) -> bool
     a == b
 }
 
-// The node at a place, and the depth to which its operands are read. There is none at depth 0 or
-// past the end, where the term is NULL.
+// Returns the node at position `at`, and the depth up to which its operands are read. At depth 0 or
+// after the last node there is no node, and the term is NULL.
 fn node<'a>(ops: &'a [Op], depth: usize, at: usize) -> Option<(&'a Op, usize)>
     ensures { MatchOption result (term_to ops.now depth at ≡ lit Null)
         (λ it. (it.1 < depth)

@@ -1,10 +1,10 @@
-//! The texts that make the tables of each version, and the indices of our own.
+//! The texts that create the tables of each schema version, and the indexes of version 3.
 ghost use Rattle.std.specs.Prelude.{◌≡◌, ◌++◌, map};
 ghost use Rattle.sql_tables.specs.Texts.{texts_of};
 
 use crate::versions::Version;
 
-// The table of the version takes one row, and in it only the version's own number.
+// The table `version` accepts only one row, with the number of its own version.
 const VERSION: &str =
     "CREATE TABLE version (id INTEGER NOT NULL PRIMARY KEY CHECK (id = 1), number INTEGER NOT \
     NULL CHECK (number = 3)) STRICT";
@@ -40,7 +40,7 @@ const RECORD: &str =
     INTEGER NOT NULL, remakes INTEGER NOT NULL, PRIMARY KEY (batch, place), UNIQUE (batch, \
     name)) STRICT";
 
-// Version 3 knows a third encipherment mark, under a name of its own.
+// In version 3, `enc` has a third value, and the table has a new name.
 const GROUPING: &str =
     "CREATE TABLE grouping2 (batch INTEGER NOT NULL, line INTEGER NOT NULL, place INTEGER NOT \
     NULL, aid BLOB NOT NULL, rank INTEGER NOT NULL CHECK (rank BETWEEN 1 AND 999), enc \
@@ -85,10 +85,11 @@ const MARK: &str =
     "CREATE TABLE mark (client TEXT NOT NULL PRIMARY KEY, upto INTEGER NOT NULL CHECK (upto \
     BETWEEN 1 AND 999999999999999999)) STRICT";
 
-// The indices are no rule, but speed.
+// The indexes only speed up reads.
 const SESSION_RUNNING: &str = "CREATE INDEX session_running ON session (machine, state)";
 
-// The marks of a record's groupings are read of it alone, and those of one segment are found by it.
+// The index covers `enc` and `tol`, so they are read from the index only, and it finds the rows of
+// one segment.
 const GROUPING_PLACE: &str =
     "CREATE INDEX grouping_place ON grouping2 (batch, place, aid, rank, line, enc, tol)";
 
@@ -98,7 +99,7 @@ const BATCH_TOLD: &str = "CREATE INDEX batch_told ON batch (name, product, close
 
 const BATCH_NAMED: &str = "CREATE INDEX batch_named ON batch (id, name)";
 
-// Versions 1 and 2 share these.
+// The tables that are the same in versions 1 and 2.
 const EARLIER: &[&str] = &[
     PRODUCT,
     LOT,
@@ -124,8 +125,8 @@ const OUR_INDICES: &[&str] = &[
     BATCH_NAMED,
 ];
 
-// The texts that make the tables of a version, each after those that it refers to, and then its
-// indices.
+// Returns the texts that create the tables of `version`, each after the tables that it refers to,
+// and the texts of its indexes.
 pub(crate) fn texts_of(version: Version) -> (&'static [&'static str], &'static [&'static str])
     ensures { map (λ text. text.now) (result.0.now ++ result.1.now) ≡ texts_of version }
 {

@@ -1,4 +1,4 @@
-//! The versions of our tables, each made in memory.
+//! The schema versions. To get the schema of a version, its tables are created in memory.
 ghost use Rattle.std.specs.Prelude.{◌≡◌, ◌↔◌, false, IfErr, IfOk, IfSome, IsTrue};
 ghost use Rattle.std.specs.Prelude.{MatchOption, MatchResult};
 ghost use Rattle.sqlite.specs.Held.{state};
@@ -13,19 +13,24 @@ use sqlite::{Alter, Connection, Error};
 use sqlite_schema::schema::Schema;
 use std::alloc::Global;
 
-/// The version of a database's tables.
+/// The schema version of a database.
 #[derive(Clone, Copy, Debug, PartialEq, Eq)]
 pub enum Version {
-    /// It knows two encipherment marks, and no released numbers.
+    /// Version 1, in which `enc` has two values, and which has no released request numbers.
     One,
-    /// It knows released numbers.
+    /// Version 2, which also has released request numbers.
     Two,
-    /// It knows a third encipherment mark.
+    /// Version 3, in which `enc` has a third value.
     Three,
 }
 
-/// The schema of a version, by making its tables in memory, where no error is one of the disk.
-/// Their order and numbers are of no matter.
+/// Returns the schema of `version`, by creating its tables in memory. The order of the tables and
+/// their tree numbers don't matter.
+///
+/// # Errors
+///
+/// Fails only if the database in memory fails, for example because an allocation fails. The error
+/// is never a disk error.
 pub fn tables_of(alloc: Global, version: Version) -> Result<Schema, Error>
     ensures { MatchResult result (λ schema. schema ≡ schema_of version)
         (λ e. is_disk_error e ≡ false) }
@@ -50,8 +55,14 @@ fn has_version<S: Alter>(
     Ok(has_just(conn.schema(), &ours))
 }
 
-/// Which version's tables a database has, in any order and with nothing beside them but indices
-/// that are no keys. Each of them is then found by its name. No error is one of the disk.
+/// Returns the version whose tables the database has, or `None`. The tables can be in any order and
+/// can have additional indexes that aren't unique. The database has no other table, no view and no
+/// trigger. Each table of the version is then found by its name.
+///
+/// # Errors
+///
+/// Fails only if the database in memory fails, for example because an allocation fails. The error
+/// is never a disk error.
 pub fn version_in<S: Alter>(alloc: Global, conn: &Connection<S>) -> Result<Option<Version>, Error>
     ensures exact { IfOk result (λ found. MatchOption found
         ((v : _) → ¬ HasJust (state S.Store conn.now).now.schema (schema_of v))

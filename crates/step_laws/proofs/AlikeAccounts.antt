@@ -1,4 +1,4 @@
--- The same facts in another order have the same accounts.
+-- Facts that differ only in the order of their sets have equal accounts.
 use Rattle.std.proofs.Common.{◌≡◌, ◌&&◌, ℕ, List, length, map, sym, ◌∙◌}
 use Rattle.std.specs.Prelude.{bytes_eq, count_by, filter, find, option_map}
 use Rattle.std.proofs.lemmas.List.Sorted.{length_permutation, sum_by-IsPermutation}

@@ -1,4 +1,4 @@
--- What is read of facts is read alike of the same facts in another order.
+-- Reads return the same result on facts that differ only in the order of their sets.
 use Rattle.std.proofs.Common.{◌≡◌, ◌==◌, ◌&&◌, ◌||◌, ℕ, List, get_or, length, map, Option, Some, None, refl, sym, ap, ◌∙◌}
 use Rattle.std.specs.Prelude.{bytes_eq, filter, find, option_and_then, option_map, slice_get, if◌then◌else◌}
 use Rattle.std.specs.List.{list_all, list_any}
@@ -16,7 +16,7 @@ use Rattle.step_laws.proofs.BlankSums.{apart_once, named_once}
 use Rattle.step_laws.proofs.Permuted.{at_most_one, count_moved, find_moved}
 
 module _ (f g : Facts) (sound : IsSound f) (same : AreSameFacts f g) where
-  -- ---- what stands under a name
+  -- ---- look-ups by name
 
   pub products_alike : (n : List ℕ) → product_named f.products n ≡ product_named g.products n
   products_alike n =

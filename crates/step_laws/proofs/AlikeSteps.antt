@@ -1,4 +1,5 @@
--- The same facts in another order: each request is replied alike, and leaves the same facts.
+-- Requests on facts that differ only in the order of their sets: the replies are equal, and the new
+-- facts differ only in this order.
 use Rattle.std.proofs.Common.{◌≡◌, ◌==◌, ◌+◌, ℕ, Bool, true, false, not, List, [], ◌∷◌, ◌++◌, length, Option, Some, None, Result, Ok, Err, refl, ap, subst, IsPermutation}
 use Rattle.std.specs.Prelude.{bytes_eq, nat_le, slice_get, if◌then◌else◌}
 use Rattle.std.proofs.lemmas.List.Sorted.{IsPermutation-append_left}
@@ -24,7 +25,8 @@ use Rattle.job_facts.specs.Steps.{Outcome, by_option, in_batch, in_record, in_se
 use Rattle.step_laws.specs.Alike.{AreAlike}
 use Rattle.step_laws.proofs.AlikeReads as reads
 
--- what is done by a look-up or a test is alike where that is, and what is done then
+-- Two outcomes that depend on a look-up or a test are alike if the look-ups return the same and
+-- both cases are alike.
 by_alike : {A : Type 0} (o p : Option A) (x y : Outcome) (g h : A → Outcome) → o ≡ p → AreAlike x y → ((a : A) → AreAlike (g a) (h a)) → AreAlike (by_option o x g) (by_option p y h)
 by_alike {A = A} o p x y g h same without having = subst (λ (q : Option A). AreAlike (by_option o x g) (by_option q y h)) same (at o)
   where
@@ -130,7 +132,7 @@ module _ (f g : Facts) (sound : IsSound f) (same : AreSameFacts f g) where
       (if_alike (not (is_running (session_state f x))) (not (is_running (session_state g x))) _ _ _ _ (ap (λ state. not (is_running state)) (reads.state_alike f g sound same x))
       (refuses _) (each x)))
 
-  -- what a status word gets, by its session's commands
+  -- the reply to a status word, from the commands of the session
   abbrev after_word : List Command → ℕ → ℕ → ℕ → Reply
   after_word commands s k sw =
       if goes_at commands k sw then (if k + 1 == length commands then reply.Good s else reply.Next (command_bytes (slice_get commands (k + 1))) (k + 1) s)

@@ -1,4 +1,5 @@
--- A product's blanks, counted by its batches and by its lots: each lies in one of these.
+-- The blanks of a product, counted by batches and by lots. Each blank belongs to exactly one of
+-- them.
 use Rattle.std.proofs.Common.{◌≡◌, ◌+◌, ◌<◌, ◌&&◌, ℕ, suc, Bool, true, false, cond, List, [], ◌∷◌, get_or, length, map, All, Option, Some, None, inl, inr, refl, sym, ap, ◌∙◌, arith}
 use Rattle.std.specs.Prelude.{AllPairs, bytes_eq, count_by, filter, find, nat_le, nat_lt, sum_by}
 use Rattle.std.proofs.lemmas.Bool.{and_parts, both_ways, cases_Bool, false_from_ne_true, leb-true, ltb-true}
@@ -20,9 +21,9 @@ use Rattle.step_laws.proofs.GoodCards.{count_among}
 abbrev pub one : Bool → ℕ
 one b = cond {A = ℕ} b 1 0
 
--- ---- what fits one key at most
+-- ---- at most one key fits
 
--- what is found passes
+-- An element was found and passes.
 abbrev passes : {K : Type 0} → (K → Bool) → Option K → Bool
 passes p None = false
 passes p (Some k) = p k
@@ -38,7 +39,7 @@ module _ {K : Type 0} (fits p : K → Bool) where
         | inr not_p ↦ ap (λ b. count_by fits (cond b (k ∷ filter p ks) (filter p ks))) not_p ∙ rest
       ]
 
-  -- where one key fits at most, it is the one that is found
+  -- If at most one key fits, it is the key that is found.
   fits_found : (ks : List K) → AllPairs (λ j k. fits j ≡ true → fits k ≡ false) ks → count_by fits (filter p ks) ≡ one (passes p (find fits ks))
   fits_found [] once = refl
   fits_found (k ∷ ks) once =
@@ -62,7 +63,7 @@ module _ {K : Type 0} (fits p : K → Bool) where
             ]
       ]
 
--- ---- items counted key by key
+-- ---- items counted by key
 
 sum_by_both : {K : Type 0} (g h : K → ℕ) (ks : List K) → sum_by (λ k. g k + h k) ks ≡ sum_by g ks + sum_by h ks
 sum_by_both g h [] = refl
@@ -73,7 +74,7 @@ sum_by_nothing [] = refl
 sum_by_nothing {K = K} (k ∷ ks) = omega (arith, sum_by-cons (λ (k : K). 0) k ks, sum_by_nothing ks)
 
 module _ {X K : Type 0} (fits : X → K → Bool) (p : X → Bool) (ks : List K) where
-  -- an item that passes is one key's, and no other is any's
+  -- An item that passes fits exactly one key, and any other item fits none.
   abbrev pub IsOneKeys : X → Type 0
   IsOneKeys x = count_by (fits x) ks ≡ one (p x)
 
@@ -94,14 +95,14 @@ and_false : (a b : Bool) → b ≡ false → one (a && b) ≡ 0
 and_false true b miss = ap one miss
 and_false false b miss = refl
 
--- with a test that is no matter of the key
+-- an additional test that doesn't depend on the key
 pub count_beside : {K : Type 0} (fits : K → Bool) (p q : Bool) (ks : List K) → count_by fits ks ≡ one p → count_by (λ k. fits k && q) ks ≡ one (p && q)
 count_beside fits p q ks is = elim (cases_Bool q) [
   | inl hit ↦ sum_by-agree (λ k. one (fits k && q)) (λ k. one (fits k)) (λ k. and_true (fits k) q hit) ks ∙ is ∙ sym (and_true p q hit)
   | inr miss ↦ sum_by-agree (λ k. one (fits k && q)) (λ k. 0) (λ k. and_false (fits k) q miss) ks ∙ sum_by_nothing ks ∙ sym (and_false p q miss)
 ]
 
--- ---- batches by names, and lots by ranges
+-- ---- batches by name, and lots by range
 
 pub bytes_eq_either : (m n : List ℕ) → bytes_eq m n ≡ bytes_eq n m
 bytes_eq_either m n = elim (cases_Bool (bytes_eq n m)) [
@@ -111,7 +112,7 @@ bytes_eq_either m n = elim (cases_Bool (bytes_eq n m)) [
       miss ∙ sym differ
 ]
 
--- one of these at most has the name
+-- At most one item has the name.
 pub named_once : {X : Type 0} (key : X → List ℕ) (xs : List X) (n : List ℕ) → AreNamedOnce (map key xs)
     → AllPairs (λ (x y : X). bytes_eq (key x) n ≡ true → bytes_eq (key y) n ≡ false) xs
 named_once {X = X} key xs n once i j d before within hit =
@@ -135,7 +136,7 @@ apart_once blank l m apart inside = false_from_ne_true (is_in blank m) (λ also.
     elim apart [ inl before ↦ omega (arith, before, most, least_there) | inr after ↦ omega (arith, after, least, most_there) ])
 
 module _ (f : Facts) (p : List ℕ) (sound : IsSound f) where
-  -- a session is of one of the product's batches, or its blank is of another product
+  -- A session belongs to a batch of the product, or its blank has another product.
   one_batch : (x : Session) → IsSession f x → count_by (λ (b : Batch). bytes_eq x.batch b.name) (batches_of f p) ≡ one (is_blank_of f p x.blank)
   one_batch x is =
       let fits : Batch → Bool = λ b. bytes_eq b.name x.batch in
@@ -160,7 +161,7 @@ module _ (f : Facts) (p : List ℕ) (sound : IsSound f) where
       ∙ by_keys fits (λ x. of_product x && stands x) (batches_of f p) f.sessions each
       ∙ sum_by-agree (λ (b : Batch). count_by (λ x. fits x b) f.sessions) (λ (b : Batch). count_sessions (session_states f b.name) state) (λ b. sym (count_among q (session_state f) (λ (x : Session). bytes_eq x.batch b.name) f.sessions)) (batches_of f p)
 
-  -- a blank lies in one of the product's lots, or it is of another product
+  -- A blank is in a lot of the product, or it has another product.
   one_lot : (blank : ℕ) → count_by (is_in blank) (lots_of f p) ≡ one (is_blank_of f p blank)
   one_lot blank =
       let of_product : Lot → Bool = λ l. bytes_eq l.product p in

@@ -14,7 +14,7 @@ any_at p [] i x there hit = absurd (none-some x there)
 any_at p (z ∷ zs) zero x there hit = or_left (p z) (list_any p zs) (ap p (same_Some z x there) ∙ hit)
 any_at p (z ∷ zs) (suc i) x there hit = or_right (p z) (list_any p zs) (any_at p zs i x there hit)
 
--- no session has a blank without a charge
+-- A blank that isn't charged has no session.
 pub uncharged : (f : Facts) (blank s : ℕ) (x : Session) → is_charged f blank ≡ false → session_numbered f.sessions s ≡ Some x → x.blank ≢ blank
 uncharged f blank zero x free is same = none-some x is
 uncharged f blank (suc i) x free is same =
@@ -22,7 +22,7 @@ uncharged f blank (suc i) x free is same =
     let none = (or_parts (list_any has f.sessions) (list_any (λ b. b == blank) f.discarded) free).0 in
     false≢true (sym none ∙ any_at has f.sessions i x is (eq-eqb x.blank blank same))
 
--- the one element that passes a test
+-- the only element that passes a test
 filter_one : {X : Type 0} (p : X → Bool) (xs : List X) (i : ℕ) (x : X) → slice_get xs i ≡ Some x → p x ≡ true
     → ((j : ℕ) (y : X) → slice_get xs j ≡ Some y → p y ≡ true → j ≡ i) → filter p xs ≡ x ∷ []
 filter_one p [] i x is passes one = absurd (none-some x is)
@@ -47,7 +47,7 @@ filter_one p (z ∷ zs) (suc i) x is passes one = elim (cases_Bool (p z)) [
     apart : 0 ≡ suc i → ⊥
     apart e = omega arith
 
--- a session is the only one of its blank
+-- A session is the only one on its blank.
 pub only_of_blank : (f : Facts) (s : ℕ) (x : Session) → IsSound f → session_numbered f.sessions s ≡ Some x → filter (λ (y : Session). y.blank == x.blank) f.sessions ≡ x ∷ []
 only_of_blank f zero x sound is = absurd (none-some x is)
 only_of_blank f (suc i) x sound is =

@@ -1,4 +1,5 @@
--- How records stand after a change: the one that it touches as it says, and all others as before.
+-- The states of records after a change: the affected record has the state that the change
+-- describes, and the others are unchanged.
 use Rattle.std.proofs.Common.{◌≡◌, ℕ, true, false, List, Some, ◌⊎◌, inl, inr, refl, sym, ap, ◌∙◌, subst}
 use Rattle.std.specs.Prelude.{bytes_eq, option_map}
 use Rattle.std.specs.List.{list_any}
@@ -22,7 +23,7 @@ use Rattle.step_laws.proofs.RecordStands.{changed_states, named, opened_states, 
 use Rattle.step_laws.proofs.ReplyFacts.{changed_record, end_is, new_record, remade_says, withdrawn_says, word_is}
 use Rattle.step_laws.proofs.StepCases.{IsOwn}
 
--- ---- the others
+-- ---- the other records
 
 as_much : (f g : Facts) (b r : List ℕ) → states_of g b r ≡ states_of f b r → is_withdrawn g b r ≡ is_withdrawn f b r → remakes_of g b r ≡ remakes_of f b r → StandsSame f g b r
 as_much f g b r states withdrawn remakes = record { states = states; withdrawn = withdrawn; remakes = remakes; stands = record_same f g b r states withdrawn remakes }
@@ -30,7 +31,7 @@ as_much f g b r states withdrawn remakes = record { states = states; withdrawn =
 pub record_of_there : (f : Facts) (s : ℕ) (x : Session) → session_numbered f.sessions s ≡ Some x → record_of_session f s ≡ Some (named x.batch x.rec)
 record_of_there f s x there = ap (option_map (λ (y : Session). record { batch = y.batch; rec = y.rec })) there
 
--- it is not for the record of the session
+-- The record isn't the record of the session.
 not_for : (f : Facts) (s : ℕ) (x : Session) (b r : List ℕ) → session_numbered f.sessions s ≡ Some x → is_that_record b r (record_of_session f s) ≡ false → is_for b r x ≡ false
 not_for f s x b r there other = sym (ap (is_that_record b r) (record_of_there f s x there)) ∙ other
 
@@ -52,17 +53,17 @@ others_same f (change.Withdraws c q was) sound holds_before b r other =
     as_much f _ b r (same_states f f.discarded f.remakes _ f.closed b r) (withdrawn_elsewhere f c q b r other) refl
 others_same f (change.Closes c) sound holds_before b r other = as_much f _ b r (same_states f f.discarded f.remakes f.withdrawn _ b r) refl refl
 
--- ---- the one that is touched
+-- ---- the affected record
 
 at_name : (g : Facts) (m n : RecordName) (s t : RecordState) → record_state g m.batch m.rec ≡ s → Some m ≡ Some n → Some s ≡ Some t → record_state g n.batch n.rec ≡ t
 at_name g m n s t is name state = subst (λ (k : RecordName). record_state g k.batch k.rec ≡ t) (same_Some m n name) (is ∙ same_Some s t state)
 
--- what a record of its batch stands as
+-- the state of a record that its batch contains
 pub state_of_named : (f : Facts) (b r : List ℕ) (state : RecordState) → record_state_of f b r ≡ Some state → IsRecord f b r × (record_state f b r ≡ state)
 unfolding record_state_of
 state_of_named f b r state given = cond_some (list_any (bytes_eq r) (records_named f b)) (record_state f b r) state given
 
--- the record of a running session runs
+-- The record of a running session is running.
 session_stood : (f : Facts) (s : ℕ) (x : Session) → IsSound f → session_numbered f.sessions s ≡ Some x → session_state f x ≡ session.Running
     → record_state f x.batch x.rec ≡ rec.Running
 session_stood f s x sound there runs =
@@ -73,7 +74,7 @@ session_stood f s x sound there runs =
 own_of : (f : Facts) (s : ℕ) (x : Session) → session_numbered f.sessions s ≡ Some x → session_state f x ≡ session.Running → IsOwn f x.machine s x
 own_of f s x there runs = record { there = there; own = refl; runs = runs }
 
--- the session of a word, as the word left it
+-- the session after its status word
 word_left : (f : Facts) (s sw : ℕ) (x : Session) (stands : SessionState) (row : SessionRow) → session_numbered f.sessions s ≡ Some x
     → session_row_of (with_word f s sw) s ≡ Some row → row.stands ≡ stands → session_state f (worded sw x) ≡ stands
 word_left f s sw x stands row there is state =
@@ -93,7 +94,7 @@ touched_stood f (change.Remakes b r) sound holds_before n t name is = at_name f 
 touched_stood f (change.Withdraws b r was) sound holds_before n t name is = at_name f (named b r) n was t (state_of_named f b r was holds_before.0).1 name is
 touched_stood f _ sound holds_before n t name is = absurd (none-some t is)
 
--- a record that is withdrawn waited or had failed
+-- A withdrawn record was waiting or failed before.
 withdrawn_now : (f : Facts) (b r : List ℕ) (was : RecordState) → record_state_of f b r ≡ Some was → (was ≡ rec.Waiting) ⊎ (was ≡ rec.Failed)
     → record_state_of (with_withdrawal f b r) b r ≡ Some rec.Withdrawn
 withdrawn_now f b r was stood either = elim either [

@@ -1,4 +1,4 @@
--- The commands of a record of sound facts: some, and of bytes, and its name is one.
+-- In sound facts a record has commands, they consist of bytes, and its name is a name.
 use Rattle.std.proofs.Common.{◌≡◌, ◌≤◌, ◌<◌, ℕ, zero, suc, true, List, [], ◌∷◌, length, map, All, Option, Some, None, refl, sym, ap, ◌∙◌, subst, arith}
 use Rattle.std.specs.Prelude.{bytes_eq, option_and_then, option_map, slice_get}
 use Rattle.std.specs.List.{flat_map, list_any}
@@ -26,7 +26,7 @@ rec_of row = row.rec
 abbrev aid_of : Row → List ℕ
 aid_of row = row.aid
 
--- a record's rows, by which it is planned
+-- the rows of a record, from which it is planned
 record IsPlanned (f : Facts) (b r : List ℕ) : Type 0 where
   product : Product
   rows : List Row
@@ -59,7 +59,7 @@ planned f b r sound is = at (batch_named f.batches b) refl
     at None none = absurd (false≢true (sym (ap (λ o. list_any (bytes_eq r) (records_under f.products o)) none) ∙ is))
     at (Some batch) there = planned_in f b r batch sound there (sym (ap (λ o. list_any (bytes_eq r) (records_under f.products o)) there) ∙ is)
 
--- ---- some commands
+-- ---- at least one command
 
 some_key : (keys : List (List ℕ)) (k : List ℕ) → list_any (bytes_eq k) keys ≡ true → (first : List ℕ) × (rest : List (List ℕ)) × (keys ≡ first ∷ rest)
 some_key [] k there = absurd (false≢true there)
@@ -92,7 +92,7 @@ record_named f b r sound is =
     let plan = planned f b r sound is in
     first_named plan.rows r plan.some plan.typed plan.own
 
--- bytes by their places, and one by one
+-- two forms of the condition that all elements are bytes
 bytes_all : (xs : List ℕ) → AreBytes xs → AllBytes xs
 bytes_all xs each = λ k d within. subst (λ n. n < 256) (get_or_default xs k 0 d within) (each k)
 
@@ -110,7 +110,7 @@ commands_bytes f b r sound is =
     All-weaker IsTyped IsByteRow (λ row one. record { aid = bytes_all row.aid one.aid; coded = coded_bytes row.coded one.is.sent }) plan.rows plan.typed in
     subst (All IsByteCommand) (sym (ap commands_under plan.plan)) (plan_bytes plan.product plan.rows (subst IsPlan same other.2) byte_rows)
 
--- a command of a record, or none
+-- A command of a record consists of bytes; without a command there are no bytes.
 pub command_at_bytes : (f : Facts) (b r : List ℕ) (k : ℕ) → IsSound f → IsRecord f b r → AreBytes (command_at f b r k)
 command_at_bytes f b r k sound is = at (slice_get (commands_for f b r) k) refl
   where

@@ -1,4 +1,4 @@
--- The cursors of a plan end where no segment stands.
+-- A cursor without a segment is at the end of the plan.
 use Rattle.std.proofs.Common.{◌≡◌, ℕ, zero, suc, Bool, true, false, eqb, not, is_some, Option, ◌+◌, ◌<◌, ◌≤◌, List, [], ◌∷◌, length, Some, None, sym, ap, ◌∙◌, subst, arith, inl, inr}
 use Rattle.std.specs.Prelude.{option_map}
 use Rattle.std.specs.List.{enumerate_from, flat_map, slice_get}
@@ -13,14 +13,14 @@ use Rattle.job_facts.specs.States.{goes_at, is_tolerant, last_stops_from}
 use Rattle.store_data.proofs.CursorLemmas.{fits_there, length-cursors_of, segment_before, tolerance_there, length-sequence, slice_get-middle}
 
 module _ (plan : Plan) (is : IsPlan plan) where
-  -- a cursor stands at a command or at the end
+  -- A cursor is at a command or at the end.
   cursor_within : (k : ℕ) (c : Cursor) → cursor_at plan k ≡ Some c → k ≤ length (sequence plan)
   cursor_within k c at = omega (arith, slice_get_within (cursors_of plan) k c at, length-cursors_of plan is)
 
   pub cursor_past : (k : ℕ) → length (commands_of plan) < k → cursor_at plan k ≡ None
   cursor_past k past = slice_get_past (cursors_of plan) k (omega (arith, length-cursors_of plan is, length-sequence plan))
 
-  -- where no segment stands, the commands have ended
+  -- If there is no segment at a cursor, all commands have been sent.
   pub end_at : (k : ℕ) (c : Cursor) → cursor_at plan k ≡ Some c → segment_at plan c.app c.segment ≡ None → k ≡ length (commands_of plan)
   end_at k c at none = elim (cases_lt k (length (sequence plan))) [
     | inl before ↦ let there = segment_before plan is k c at before in absurd (none-some there.0 (sym none ∙ there.1))
@@ -44,7 +44,7 @@ module _ (plan : Plan) (is : IsPlan plan) where
         subst IsCursor (sym last) (record { app = many; segment = omega arith; offset = omega arith; block = omega arith })
   ]
 
-  -- past the end no cursor stands
+  -- There is no cursor after the end.
   pub past_at : (k : ℕ) → cursor_at plan k ≡ None → length (commands_of plan) < k
   past_at k none = elim (cases_lt (length (commands_of plan)) k) [
     | inl past ↦ past
@@ -77,7 +77,7 @@ module _ (plan : Plan) (is : IsPlan plan) where
           absurd (none-some _ (sym past ∙ tolerance_there plan is k c at v there))
     ]
 
-    -- whether a view shows a segment there
+    -- whether a view contains the segment at the cursor
     pub end_of_view : (view : Option SegmentView) (none : Bool) → option_map shown view ≡ segment_at plan c.app c.segment → is_some view ≡ not none
         → none ≡ eqb k (length (commands_of plan))
     end_of_view None true is e = sym (eq-eqb k (length (commands_of plan)) (end_at k c at (sym is)))
@@ -85,9 +85,9 @@ module _ (plan : Plan) (is : IsPlan plan) where
     end_of_view (Some v) true is e = absurd (cc)
     end_of_view (Some v) false is e = let before = command_there (shown v) (sym is) in sym (ne_eqb k (length (commands_of plan)) (λ same. omega arith))
 
--- ---- words
+-- ---- status words
 
--- the last of some words is judged by its place
+-- The last status word is tested with the command at its position.
 pub last_stops-at : (commands : List Command) (k n : ℕ) (words : List ℕ) (w : ℕ) → length words ≡ suc n → slice_get words n ≡ Some w
     → last_stops_from commands k words ≡ not (goes_at commands (k + n) w)
 last_stops-at commands k n [] w count at = absurd (omega arith)
@@ -100,7 +100,7 @@ last_stops-at commands k (suc n) (x ∷ y ∷ words) w count at =
     let here : (k + 1) + n ≡ k + suc n = omega arith in
     last_stops-at commands (k + 1) n (y ∷ words) w (omega arith) at ∙ ap (λ m. not (goes_at commands m w)) here
 
--- the last word goes, by its place
+-- whether the last status word lets the session continue, from its position
 pub last_stops-last : (commands : List Command) (words : List ℕ) (n w : ℕ) (goes tolerant : Bool) → length words ≡ n + 1 → slice_get words n ≡ Some w
     → goes ≡ goes_on w tolerant → tolerant ≡ is_tolerant (slice_get commands n) → not goes ≡ last_stops_from commands 0 words
 last_stops-last commands words n w goes tolerant count at goes_is tolerant_is =

@@ -1,4 +1,5 @@
--- Good sessions: they stay good, each of their words goes, and a record and a blank have one.
+-- Good sessions: they stay good, all of their status words let the session continue, and a record
+-- or a blank has at most one.
 use Rattle.std.proofs.Common.{◌≡◌, ◌≤◌, ◌<◌, ◌+◌, ◌==◌, ◌&&◌, ◌||◌, ℕ, zero, suc, Bool, true, false, cond, List, [], ◌∷◌, length, length-append, get_or, map, Some, refl, sym, ap, ◌∙◌, subst, inl, inr, arith}
 use Rattle.std.specs.Prelude.{bytes_eq, count_by, filter, nat_lt, option_map, slice_get, IsTrue}
 use Rattle.std.specs.List.{list_any}
@@ -22,7 +23,7 @@ use Rattle.step_laws.specs.Later.{Later}
 use Rattle.step_laws.specs.Records.{WordsGo}
 use Rattle.step_laws.proofs.Numbered.{session_sound}
 
--- ---- what a filter keeps and a map makes of it
+-- ---- elements that a filter keeps and a map changes
 
 module _ {X Y : Type 0} (q : Y → Bool) (h : X → Y) (p : X → Bool) where
   abbrev among : List X → List Y
@@ -68,7 +69,7 @@ module _ {X Y : Type 0} (q : Y → Bool) (h : X → Y) (p : X → Bool) where
             omega (arith, left, right, whole, rest)
       ]
 
--- one that passes counts, and two count twice
+-- An element that passes counts once, and two elements count twice.
 count_one : {X : Type 0} (p : X → Bool) (xs : List X) (i : ℕ) (x : X) → slice_get xs i ≡ Some x → p x ≡ true → 1 ≤ count_by p xs
 count_one p [] i x there hit = absurd (none-some x there)
 count_one p (z ∷ xs) zero x there hit =
@@ -85,7 +86,7 @@ count_two p (z ∷ zs) zero (suc j) x y before at_i at_j hit_x hit_y =
 count_two p (z ∷ zs) (suc i) (suc j) x y before at_i at_j hit_x hit_y =
     omega (arith, sum_by-cons (λ w. cond {A = ℕ} (p w) 1 0) z zs, count_two p zs i j x y (omega arith) at_i at_j hit_x hit_y)
 
--- where at most one session passes, two that pass are one
+-- If at most one session passes, two sessions that pass are the same.
 pub one_of_count : (p : Session → Bool) (xs : List Session) (s t : ℕ) (x y : Session) → count_by p xs ≤ 1 → session_numbered xs s ≡ Some x → session_numbered xs t ≡ Some y
     → p x ≡ true → p y ≡ true → s ≡ t
 one_of_count p xs zero t x y one at_s at_t hit_x hit_y = absurd (none-some x at_s)
@@ -98,9 +99,9 @@ one_of_count p xs (suc i) (suc j) x y one at_s at_t hit_x hit_y = elim (cases_lt
   ]
 ]
 
--- ---- one good session a record, one session a blank
+-- ---- one good session per record, one session per blank
 
--- it is for its own record
+-- A session belongs to its own record.
 pub for_own : (x : Session) → is_for x.batch x.rec x ≡ true
 for_own x = and_from (bytes_eq x.batch x.batch) (bytes_eq x.rec x.rec) (bytes_eq-same x.batch) (bytes_eq-same x.rec)
 
@@ -115,7 +116,7 @@ one_good f s t x y sound at_s at_t good_x good_y batch rec =
     let own_y : own y ≡ true = ap (λ b. bytes_eq y.batch b && bytes_eq y.rec x.rec) (sym batch) ∙ ap (λ r. bytes_eq y.batch y.batch && bytes_eq y.rec r) (sym rec) ∙ for_own y in
     one_of_count q f.sessions s t x y one at_s at_t hit_x (and_from (own y) (has_card (session_state f y)) own_y (ap has_card good_y))
 
--- a session's blank among the charges
+-- the blank of a session among the charges
 charge_at : (f : Facts) (i : ℕ) (x : Session) (d : ℕ) → slice_get f.sessions i ≡ Some x → get_or (charges f) i d ≡ x.blank
 charge_at f i x d is =
     let blank_of : Session → ℕ = λ s. s.blank in
@@ -139,14 +140,14 @@ one_of_blank f (suc i) (suc j) x y sound at_s at_t same =
       ]
     ]
 
--- ---- for good
+-- ---- good sessions stay good
 
 good_is : (t : SessionState) → is_good t ≡ true → t ≡ session.Good
 good_is session.Good good = refl
 good_is session.Running good = absurd (false≢true good)
 good_is session.Spoiled good = absurd (false≢true good)
 
--- a session that is good stays what it is
+-- A good session is unchanged.
 pub good_session : (f g : Facts) → Later f g → (s : ℕ) (x : Session) → session_numbered f.sessions s ≡ Some x → session_state f x ≡ session.Good
     → (session_numbered g.sessions s ≡ Some x) × (session_state g x ≡ session.Good)
 good_session f g later s x there good =
@@ -182,9 +183,9 @@ good_record f g later b r good =
     let still = good_session f g later (suc at.0) at.1 at.2 (good_is (session_state f at.1) at.4) in
     record_of_good g b r (any_there is_good (session_state g) (is_for b r) g.sessions at.0 at.1 still.0 at.3 (ap is_good still.1))
 
--- ---- words
+-- ---- status words
 
--- by the tests of a state, where it is good
+-- the tests of a good state
 whole_tests : (over stops whole : Bool) → cond (over || stops) session.Spoiled (cond whole session.Good session.Running) ≡ session.Good
     → (over ≡ false) × (stops ≡ false) × (whole ≡ true)
 whole_tests true stops whole good = absurd (cc)
@@ -209,7 +210,7 @@ words_go commands words are last k sw there = elim (cases_lt (k + 1) (length wor
       subst (λ n. goes_at commands n sw ≡ true) place (last_goes commands 0 words k sw last there (omega (arith, past, within)))
 ]
 
--- a good session has a word for each command, and each goes
+-- A good session has a status word for each command, and all of them let the session continue.
 pub good_whole : (f : Facts) (s : ℕ) (x : Session) → IsSound f → session_numbered f.sessions s ≡ Some x → session_state f x ≡ session.Good
     → (length x.words ≡ length (commands_for f x.batch x.rec)) × WordsGo f x
 good_whole f s x sound there good =
@@ -217,7 +218,7 @@ good_whole f s x sound there good =
     let parts = good_parts f x good in
     (eqb-true (length x.words) (length commands) parts.2, words_go commands x.words (session_sound f s x sound there).words parts.1)
 
--- each word of a running session goes, and a command is left
+-- All status words of a running session let it continue, and a command is left.
 pub running_begun : (f : Facts) (s : ℕ) (x : Session) → IsSound f → session_numbered f.sessions s ≡ Some x → session_state f x ≡ session.Running
     → (length x.words < length (commands_for f x.batch x.rec)) × WordsGo f x
 running_begun f s x sound there runs =

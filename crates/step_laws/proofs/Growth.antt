@@ -1,4 +1,4 @@
--- Sessions only grow, by what their own machines ask.
+-- Sessions only grow, and only by requests of their own machines.
 use Rattle.std.proofs.Common.{◌≡◌, ◌≤◌, ◌<◌, ◌+◌, ℕ, true, false, List, [], ◌∷◌, ◌++◌, append_assoc, length, Some, refl, sym, ap, ◌∙◌, subst, inl, inr, arith}
 use Rattle.std.proofs.lemmas.Bool.{false≢true}
 use Rattle.std.proofs.lemmas.List.{length_push}
@@ -17,7 +17,7 @@ use Rattle.step_laws.proofs.StepCases.{IsOwn, facts_by, sessions_by}
 
 -- ---- later facts
 
--- the same sessions, by facts that know more
+-- The sessions are the same, and more is known.
 known_later : (f g : Facts) → IsSound f → KnowsMore f g → g.sessions ≡ f.sessions → Later f g
 known_later f g sound more same s x is =
     let sane = session_sound f s x sound is in
@@ -34,7 +34,7 @@ known_later f g sound more same s x is =
       over = λ done. (refl, state_kept f g more sound x sane);
     }
 
--- a session that stays, beside others
+-- A session is unchanged while others change.
 stays_later : (f : Facts) (sessions : List Session) (s : ℕ) (x : Session) → session_numbered sessions s ≡ Some x → IsLaterSession f (record f { sessions = sessions }) s x
 stays_later f sessions s x there = record {
   now = x;
@@ -49,7 +49,7 @@ stays_later f sessions s x there = record {
   over = λ done. (refl, state_same f sessions x);
 }
 
--- a change that a session may go through: a word more, or an end
+-- `y` is `x` with more status words, or ended.
 record GoesOn (x y : Session) : Type 0 where
   machine : y.machine ≡ x.machine
   batch : y.batch ≡ x.batch
@@ -102,7 +102,7 @@ step_later f client r sound =
       close = λ b batch more there done knows. known_later f _ sound knows refl;
     }) r (knows r)
 
--- and so on, step after step
+-- `Later` is reflexive and transitive.
 pub later_same : (f : Facts) → Later f f
 later_same f s x is = stays_later f f.sessions s x is
 
@@ -133,7 +133,7 @@ later_on f g h first second s x is =
           (then.0 ∙ stands.0, ap (session_state h) (sym stands.0) ∙ then.1 ∙ still);
     }
 
--- ---- whose they are
+-- ---- the machine of a session
 
 changed_others : (f : Facts) (client : List ℕ) (t : ℕ) (y : Session) (change : Session → Session) → IsOwn f client t y → ((x : Session) → GoesOn x (change x))
     → OtherSessionsStay client f (record f { sessions = at_session t change f.sessions })
@@ -164,7 +164,7 @@ step_others f client r =
       ends = λ r s x own why. changed_others f client s x ended own end_on;
     }) r
 
--- the rest of the requests leave all of them
+-- All other requests leave the sessions unchanged.
 pub step_leaves : (f : Facts) (client : List ℕ) (r : Request) → is_on_session r ≡ false → (step f client r).0.sessions ≡ f.sessions
 step_leaves f client r =
     sessions_by f client (λ r xs. is_on_session r ≡ false → xs ≡ f.sessions)
@@ -178,7 +178,7 @@ step_leaves f client r =
       ];
     }) r
 
--- ---- how many
+-- ---- the number of sessions
 
 pub step_few : (f : Facts) (client : List ℕ) (r : Request)
     → (length f.sessions ≤ length (step f client r).0.sessions) × (length (step f client r).0.sessions ≤ length f.sessions + 1)
@@ -195,7 +195,7 @@ step_few f client r =
       ends = λ r s x own why. subst P (sym (length_changed s ended f.sessions)) same;
     }) r
 
--- ---- words
+-- ---- status words
 
 abbrev words_of : Session → List ℕ
 words_of x = x.words

@@ -1,5 +1,5 @@
--- What is known stays: what stands under a name, and so the commands of a record and the state of a
--- session.
+-- Facts that are known stay known: everything with a name, and therefore the commands of a record
+-- and the state of a session.
 use Rattle.std.proofs.Common.{◌≡◌, ℕ, List, [], ◌∷◌, ◌++◌, Option, Some, refl, sym, ap, ◌∙◌, append-nil}
 use Rattle.std.specs.Prelude.{bytes_eq, option_and_then, option_map}
 use Rattle.store_data.specs.declared.row.Product.{Product}
@@ -22,7 +22,7 @@ module _ {X : Type 0} (xs : List X) where
   pub one_more : (x : X) → IsMore xs (xs ++ x ∷ [])
   one_more x = (x ∷ [], refl)
 
--- ---- a step
+-- ---- one step
 
 known : (f g : Facts) → IsMore f.products g.products → IsMore f.lots g.lots → IsMore f.batches g.batches → IsMore f.discarded g.discarded
     → IsMore f.remakes g.remakes → IsMore f.withdrawn g.withdrawn → IsMore f.closed g.closed → KnowsMore f g
@@ -30,7 +30,7 @@ known f g products lots batches discarded remakes withdrawn closed =
     record { products = products; lots = lots; batches = batches; discarded = discarded; remakes = remakes; withdrawn = withdrawn; closed = closed }
 
 module _ (f : Facts) where
-  -- one more of what has a name
+  -- more products, lots or batches
   more_named : (products : List Product) (lots : List Lot) (batches : List Batch) → IsMore f.products products → IsMore f.lots lots → IsMore f.batches batches
       → KnowsMore f (record f { products = products; lots = lots; batches = batches })
   more_named products lots batches ps ls bs =
@@ -105,7 +105,7 @@ module _ (f g : Facts) (more : KnowsMore f g) where
   unfolding session_state
   state_kept sound x is = ap (λ commands. state_with commands x) (commands_kept sound x.batch is.batch is.batch_is x.rec)
 
--- ---- the sessions change nothing of a record's commands, or of how a session stands
+-- ---- changing sessions doesn't affect the commands of a record or the states of other sessions
 
 module _ (f : Facts) (sessions : List Session) where
   pub commands_same : (b r : List ℕ) → commands_for (record f { sessions = sessions }) b r ≡ commands_for f b r

@@ -1,4 +1,4 @@
--- Sessions by their numbers: one that changes, and one more.
+-- Sessions by number, when one changes or one is added.
 use Rattle.std.proofs.Common.{◌≡◌, ◌≢◌, ◌⊎◌, ◌+◌, ◌≤◌, ℕ, zero, suc, List, [], ◌∷◌, ◌++◌, length, Some, refl, sym, ap, ◌∙◌, subst, inl, inr, arith}
 use Rattle.std.specs.Prelude.{slice_get}
 use Rattle.std.proofs.lemmas.Bool.{cases_lt}
@@ -9,7 +9,7 @@ use Rattle.job_facts.specs.States.{session_numbered}
 use Rattle.job_facts.proofs.Lists.{slice_get-append_left}
 use Rattle.job_facts.proofs.SessionLemmas.{session_changed}
 
--- a session of sound facts is sound
+-- A session of sound facts is sound.
 pub session_sound : (f : Facts) (s : ℕ) (x : Session) → IsSound f → session_numbered f.sessions s ≡ Some x → IsSession f x
 session_sound f zero x sound is = absurd (none-some x is)
 session_sound f (suc s) x sound is =
@@ -19,7 +19,7 @@ pub numbered_within : (xs : List Session) (s : ℕ) (x : Session) → session_nu
 numbered_within xs zero x is = absurd (none-some x is)
 numbered_within xs (suc i) x is = slice_get_within xs i x is
 
--- ---- one more at the end
+-- ---- a session is added
 
 pub numbered_push : (xs ys : List Session) (s : ℕ) (x : Session) → session_numbered xs s ≡ Some x → session_numbered (xs ++ ys) s ≡ Some x
 numbered_push xs ys zero x is = absurd (none-some x is)
@@ -44,9 +44,9 @@ numbered_pushed xs y (suc i) x is = at xs i is
     at (z ∷ zs) zero is = inl is
     at (z ∷ zs) (suc i) is = at zs i is
 
--- ---- one that changes
+-- ---- a session changes
 
--- the others stay
+-- The other sessions are unchanged.
 pub numbered_other : (xs : List Session) (t : ℕ) (change : Session → Session) (s : ℕ) → s ≢ t → session_numbered (at_session t change xs) s ≡ session_numbered xs s
 numbered_other [] t change s apart = refl
 numbered_other (y ∷ xs) zero change s apart = refl
@@ -56,14 +56,14 @@ numbered_other (y ∷ xs) (suc zero) change (suc (suc s)) apart = refl
 numbered_other (y ∷ xs) (suc (suc t)) change (suc zero) apart = refl
 numbered_other (y ∷ xs) (suc (suc t)) change (suc (suc s)) apart = numbered_other xs (suc t) change (suc s) (λ e. apart (ap suc e))
 
--- a session is the one that changes, or one that stays
+-- A session is the one that changes, or another.
 pub at_or_other : (s t : ℕ) → (s ≡ t) ⊎ (s ≢ t)
 at_or_other s t = elim (cases_lt s t) [
   | inl before ↦ inr (λ e. omega arith)
   | inr past ↦ elim (cases_lt t s) [ inl after ↦ inr (λ e. omega arith) | inr same ↦ inl (omega arith) ]
 ]
 
--- what it is then
+-- the session after the change
 pub numbered_changed : (xs : List Session) (t : ℕ) (y : Session) (change : Session → Session) (s : ℕ) (now : Session) → session_numbered xs t ≡ Some y
     → session_numbered (at_session t change xs) s ≡ Some now → ((s ≡ t) × (now ≡ change y)) ⊎ ((s ≢ t) × (session_numbered xs s ≡ Some now))
 numbered_changed xs t y change s now there is = elim (at_or_other s t) [

@@ -1,4 +1,4 @@
--- Lists in another order: what filters keep of them, and what is found where at most one passes.
+-- Permuted lists: the results of filters, and of a search if at most one element passes.
 use Rattle.std.proofs.Common.{◌≡◌, ℕ, zero, suc, ◌<◌, ◌≤◌, Bool, true, false, cond, List, [], ◌∷◌, length, get_or, set, swap, Option, Some, refl, sym, ap, ◌∙◌, subst, inl, inr, arith, IsPermutation}
 use Rattle.std.specs.Prelude.{All, AllPairs, count_by, filter, find}
 use Rattle.std.proofs.lemmas.Bool.{cases_Bool, cond-true, cond-false}
@@ -6,8 +6,8 @@ use Rattle.std.proofs.lemmas.List.Elements.{All-head, All-tail, All-weaker}
 use Rattle.std.proofs.lemmas.List.Sorted.{IsPermutation-cons, IsPermutation-keeps, IsPermutation-refl, IsPermutation-swap, IsPermutation-trans, sum_by-IsPermutation}
 use Rattle.std.proofs.lemmas.List.Sums.{sum_by-cons}
 
--- a relation that holds of lists as they are, under one more element, of two that change places,
--- and from one to the next, holds of every order
+-- A relation between lists is true of all permutations if it is reflexive and transitive, is kept
+-- when an element is prepended to both lists, and is true when the first two elements are swapped.
 module _ {X : Type 0} (R : List X → List X → Type 0) (same : (xs : List X) → R xs xs) (under : (x : X) (xs ys : List X) → R xs ys → R (x ∷ xs) (x ∷ ys))
     (turn : (x y : X) (xs : List X) → R (x ∷ y ∷ xs) (y ∷ x ∷ xs)) (chain : (xs ys zs : List X) → R xs ys → R ys zs → R xs zs) where
   first_for : (xs : List X) (j : ℕ) (x d : X) → j < length xs → R (x ∷ xs) (get_or xs j d ∷ set xs j x)
@@ -61,7 +61,7 @@ module _ {X : Type 0} (p : X → Bool) where
   count_there : (x : X) (xs : List X) → p x ≡ false → count_by p (x ∷ xs) ≡ count_by p xs
   count_there x xs miss = let none : cond {A = ℕ} (p x) 1 0 ≡ 0 = cond-false {A = ℕ} (p x) 1 0 miss in omega (arith, none, sum_by-cons (λ z. cond (p z) 1 0) x xs)
 
-  -- what is found is found in any order, where at most one passes
+  -- If at most one element passes, a search finds the same element in any order.
   abbrev FindsAlike : List X → List X → Type 0
   FindsAlike xs ys = count_by p xs ≤ 1 → (find p xs ≡ find p ys) × (count_by p xs ≡ count_by p ys)
 
@@ -103,7 +103,7 @@ module _ {X : Type 0} (p : X → Bool) where
   none_pass [] none = refl
   none_pass (x ∷ xs) none = count_there x xs (All-head (λ x. p x ≡ false) x xs none) ∙ none_pass xs (All-tail (λ x. p x ≡ false) x xs none)
 
-  -- what passes before another keeps it from passing
+  -- If one of two elements passes, the other doesn't.
   abbrev pub PassAlone : X → X → Type 0
   PassAlone x y = p x ≡ true → p y ≡ false
 

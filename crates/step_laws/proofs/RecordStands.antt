@@ -1,4 +1,5 @@
--- How records stand after a step: by the session that changed, and all others as before.
+-- The states of records after a step: the record of the changed session depends on this session,
+-- and the others are unchanged.
 use Rattle.std.proofs.Common.{◌≡◌, ◌+◌, ◌==◌, ◌&&◌, ◌||◌, ℕ, Bool, true, false, cond, List, [], ◌∷◌, ◌++◌, length, map, append-nil, Some, refl, sym, ap, ◌∙◌, arith}
 use Rattle.std.specs.Prelude.{bytes_eq, count_by, filter, nat_lt, option_map}
 use Rattle.std.specs.List.{list_any}
@@ -24,9 +25,9 @@ use Rattle.step_laws.specs.Records.{OtherRecordsStand, is_that_record, record_by
 use Rattle.step_laws.proofs.Kept.{state_kept, step_knows}
 use Rattle.step_laws.proofs.StepCases.{own_there, step_by}
 
--- ---- by the session that has the card
+-- ---- records with a good or running session
 
--- without a card none is good or runs
+-- Without a good or running session, no session is good.
 pub none_good : (states : List SessionState) → list_any has_card states ≡ false → list_any is_good states ≡ false
 none_good states none = list_any_none is_good states (λ k d within. (or_parts _ _ (All-from_list_any has_card states none k d within)).0)
 
@@ -40,7 +41,7 @@ module _ (before after : List SessionState) (t : SessionState) where
   abbrev now_states : List SessionState
   now_states = before ++ t ∷ after
 
-  -- beside a running session no other is good or runs
+  -- If a session is running, no other session of the record is good or running.
   no_other : (withdrawn : Bool) (remakes : ℕ) → IsSoundRecord then_states withdrawn remakes → (list_any has_card before ≡ false) × (list_any has_card after ≡ false)
   no_other withdrawn remakes is =
       let at = count_by-at has_card before after session.Running in
@@ -53,7 +54,7 @@ module _ (before after : List SessionState) (t : SessionState) where
   by_one p none_before none_after =
       list_any-append p before (t ∷ after) ∙ ap (λ b. b || (p t || list_any p after)) none_before ∙ ap (λ b. p t || b) none_after ∙ or-false (p t)
 
--- the record of the session that had the card stands by what that is now
+-- the state of the record of the changed session, from the new state of this session
 pub stands_by : (before after : List SessionState) (t : SessionState) (withdrawn : Bool) (remakes : ℕ)
     → IsSoundRecord (before ++ session.Running ∷ after) withdrawn remakes → state_by (before ++ t ∷ after) withdrawn remakes ≡ record_by t
 stands_by before after session.Good withdrawn remakes is =
@@ -81,7 +82,7 @@ stands_by before after session.Spoiled withdrawn remakes is =
     lt-ltb remakes (count_by is_spoiled (before ++ session.Spoiled ∷ after)) (omega (arith, remade, then_count, now_count)) in
     rw (good, runs, stays, more) refl
 
--- ---- records of which as much is known
+-- ---- records about which the same is known
 
 pub record_same : (f g : Facts) (b r : List ℕ) → states_of g b r ≡ states_of f b r → is_withdrawn g b r ≡ is_withdrawn f b r → remakes_of g b r ≡ remakes_of f b r
     → record_state g b r ≡ record_state f b r
@@ -90,7 +91,7 @@ record_same f g b r states withdrawn remakes =
     ap (λ xs. state_by xs (is_withdrawn g b r) (remakes_of g b r)) states ∙ ap (λ w. state_by (states_of f b r) w (remakes_of g b r)) withdrawn
     ∙ ap (state_by (states_of f b r) (is_withdrawn f b r)) remakes
 
--- more is known, and no session changed
+-- More is known, but no session changed.
 pub states_known : (f g : Facts) (b r : List ℕ) → IsSound f → KnowsMore f g → g.sessions ≡ f.sessions → states_of g b r ≡ states_of f b r
 states_known f g b r sound more same =
     states_are g b r ∙ ap (λ xs. states_among g xs b r) same
@@ -99,15 +100,16 @@ states_known f g b r sound more same =
     (All-weaker (IsSession f) (λ x. session_state g x ≡ session_state f x) (state_kept f g more sound) f.sessions sound.sessions.each))
     ∙ sym (states_are f b r)
 
--- ---- a session among the others
+-- ---- a session among others
 
--- the states of a record around one of the sessions
+-- the states of a record's sessions, split at one session
 pub states_around : (f : Facts) (before after : List Session) (x : Session) (b r : List ℕ) → states_of (record f { sessions = before ++ x ∷ after }) b r
     ≡ map (session_state f) (filter (is_for b r) before) ++ cond (is_for b r x) (session_state f x ∷ map (session_state f) (filter (is_for b r) after)) (map (session_state f) (filter (is_for b r) after))
 unfolding states_of session_state plan_for
 states_around f before after x b r = map_filter-at (is_for b r) (session_state f) before after x
 
--- the states of a record for which it isn't are the same with another in its place
+-- If a session doesn't belong to a record, replacing it doesn't change the states of the record's
+-- sessions.
 pub states_elsewhere : (f : Facts) (before after : List Session) (x y : Session) (b r : List ℕ) → y.batch ≡ x.batch → y.rec ≡ x.rec → is_for b r x ≡ false
     → states_of (record f { sessions = before ++ y ∷ after }) b r ≡ states_of (record f { sessions = before ++ x ∷ after }) b r
 states_elsewhere f before after x y b r batch rec miss =
@@ -117,9 +119,9 @@ states_elsewhere f before after x y b r batch rec miss =
     states_around f before after y b r ∙ ap (λ ts. first ++ ts) (cond-false (is_for b r y) (session_state f y ∷ rest) rest also)
     ∙ sym (states_around f before after x b r ∙ ap (λ ts. first ++ ts) (cond-false (is_for b r x) (session_state f x ∷ rest) rest miss))
 
--- ---- the others stand as before
+-- ---- the other records are unchanged
 
--- a session that changes leaves the records of others
+-- A session that changes doesn't affect other records.
 module _ (f : Facts) (s : ℕ) (x : Session) (change : Session → Session) (there : session_numbered f.sessions s ≡ Some x)
     (batch : (change x).batch ≡ x.batch) (rec : (change x).rec ≡ x.rec) where
   abbrev after_change : Facts

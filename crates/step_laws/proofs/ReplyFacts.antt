@@ -1,4 +1,4 @@
--- What each reply says of the request that it answers, and of the facts.
+-- The statements of each reply about its request and about the facts.
 use Rattle.std.proofs.Common.{◌≡◌, ◌+◌, ◌==◌, ℕ, zero, suc, Bool, true, false, not, cond, List, [], ◌∷◌, ◌++◌, length, map, Option, Some, None, Ok, refl, sym, ap, ◌∙◌, subst, inl, inr, arith}
 use Rattle.std.specs.Prelude.{bytes_eq, count_by, filter, find, is_some, nat_lt, slice_get}
 use Rattle.std.specs.List.{list_any}
@@ -39,7 +39,7 @@ use Rattle.step_laws.proofs.Numbered.{numbered_changed, numbered_top}
 use Rattle.step_laws.proofs.RecordStands.{named, none_good, none_running, same_states, stands_by, states_around}
 use Rattle.step_laws.proofs.StepCases.{IsOwn, named_batch, own_there, step_by}
 
--- ---- of the request
+-- ---- statements about the request
 
 pub step_may : (f : Facts) (client : List ℕ) (r : Request) → MayGetReply r (step f client r).1
 step_may f client r =
@@ -71,7 +71,7 @@ step_may f client r =
       close = λ b batch more there done. refl;
     }) r
 
--- ---- what is new is found
+-- ---- new facts are found
 
 found_push : {X : Type 0} (q : X → Bool) (xs : List X) (x : X) → find q xs ≡ None → q x ≡ true → find q (xs ++ x ∷ []) ≡ Some x
 found_push q xs x none hit = find-append q xs (x ∷ []) ∙ ap (λ o. option_or o (find q (x ∷ []))) none ∙ cond-true (q x) (Some x) None hit
@@ -130,7 +130,7 @@ module _ (f : Facts) (client b : List ℕ) (blank : ℕ) (r : List ℕ) (sound :
 
 -- ---- a session that changes
 
--- the record of the session with the card, with other words or ended
+-- the record of the running session, after more status words or an end of this session
 pub changed_record : (f : Facts) (before after : List Session) (x : Session) (words : List ℕ) (over : Bool) (t : SessionState) → IsSound f → f.sessions ≡ before ++ x ∷ after
     → session_state f x ≡ session.Running → session_state f (record x { words = words; ended = over }) ≡ t
     → record_state (record f { sessions = before ++ record x { words = words; ended = over } ∷ after }) x.batch x.rec ≡ record_by t
@@ -177,7 +177,7 @@ module _ (f : Facts) (client : List ℕ) (s : ℕ) (x : Session) (sound : IsSoun
             ∙ changed_record f split.0 split.1 x x.words true session.Spoiled sound split.2 own.runs ended_state;
       }
 
-  -- no other session of the client runs, and this one is over
+  -- The client has no other running session, and this one is no longer running.
   none_runs : running_session (with_end f s) client ≡ None
   none_runs = at (running_session (with_end f s) client) refl
     where
@@ -198,9 +198,9 @@ module _ (f : Facts) (client : List ℕ) (s : ℕ) (x : Session) (sound : IsSoun
                 miss.0 (one_of_count q f.sessions t s y.0 x (sound.sessions.machines client) miss.1 own.there hit_y hit_x)
           ])
 
--- ---- a word
+-- ---- a status word
 
--- how a running session stands after a word, by its tests
+-- the state of a running session after a status word, from the tests
 word_state : (f : Facts) (x : Session) (k sw : ℕ) (goes full : Bool) → session_state f x ≡ session.Running → k ≡ length x.words
     → goes_at (commands_for f x.batch x.rec) k sw ≡ goes → (k + 1 == length (commands_for f x.batch x.rec)) ≡ full
     → session_state f (worded sw x) ≡ cond goes (cond full session.Good session.Running) session.Spoiled
@@ -234,14 +234,14 @@ word_says f client s k sw x sound own turn =
     )))
     (λ stops. (worded sw x, word_is f client s x sound own sw session.Spoiled (state false (k + 1 == length commands) own.runs turn stops refl)))
 
--- ---- a record remade or withdrawn
+-- ---- a record that is remade or withdrawn
 
--- a record without a card, by the rest of what is known of it
+-- the state of a record without a good or running session
 cardless : (states : List SessionState) (withdrawn more : Bool) (remakes : ℕ) → list_any has_card states ≡ false → nat_lt remakes (count_by is_spoiled states) ≡ more
     → state_by states withdrawn remakes ≡ cond withdrawn rec.Withdrawn (cond more rec.Failed rec.Waiting)
 cardless states withdrawn more remakes none last = rw (none_good states none, none_running states none, last) refl
 
--- a record that waits or failed
+-- A record that is waiting or failed has no good or running session.
 open_record : (f : Facts) (b r : List ℕ) (failed : Bool) → record_state_of f b r ≡ Some (cond failed rec.Failed rec.Waiting)
     → (list_any (bytes_eq r) (records_named f b) ≡ true) × (list_any has_card (states_of f b r) ≡ false) × (is_withdrawn f b r ≡ false)
 unfolding record_state_of record_state

@@ -1,4 +1,4 @@
--- What is replied to a request in its ranges is in its own.
+-- The reply to a request in its ranges is in its own ranges.
 use Rattle.std.proofs.Common.{◌≡◌, ◌≤◌, ◌<◌, ◌+◌, ◌^◌, ◌==◌, ℕ, List, length, Some, ap, ◌∙◌, arith}
 use Rattle.std.specs.List.{enumerate_from}
 use Rattle.std.proofs.lemmas.Bool.{cond_both}
@@ -22,11 +22,11 @@ use Rattle.step_laws.proofs.SoundSteps.{few_sessions}
 use Rattle.step_laws.proofs.StepCases.{own_there, step_by}
 use Rattle.std.specs.Prelude.{bytes_eq}
 
--- there are no more records than rows
+-- A batch has at most as many records as rows.
 records_few : (rows : List Row) → length rows ≤ 4096 → length (records_of_rows rows) ≤ 4096
 records_few rows few = omega (arith, few, length-grouped (λ (e : ℕ × Row). e.1.rec) (enumerate_from 2 rows), length-enumerate_from 2 rows)
 
--- the rows of a batch that is there
+-- A batch has at most 4,096 rows.
 rows_few : (f : Facts) (b : List ℕ) (batch : Batch) → IsSound f → batch_named f.batches b ≡ Some batch → length (rows_of f.products batch) ≤ 4096
 unfolding rows_of
 rows_few f b batch sound there =

@@ -1,4 +1,5 @@
--- Sound facts stay sound, whatever is asked in its ranges; and they have few sessions.
+-- Sound facts are sound after any request in its ranges, and the number of their sessions is
+-- limited.
 use Rattle.std.proofs.Common.{◌≡◌, ◌≢◌, ◌≤◌, ◌==◌, ℕ, true, cond, List, [], ◌∷◌, length, length-append, map, All, Some, sym, ap, ◌∙◌, subst, inl, inr, arith}
 use Rattle.std.specs.Prelude.{AllPairs, IsSome, is_some, sum_by}
 use Rattle.std.specs.List.{flat_map}
@@ -50,7 +51,7 @@ among_serials (l ∷ lots) q some = elim (cases_Bool (is_in q l)) [
   | inr outside ↦ has_later q l lots (among_serials lots q (sym (ap (λ b. is_some (cond b (Some l) (lot_of lots q))) outside) ∙ some))
 ]
 
--- what holds of each holds of one among them
+-- If a property is true of all elements, it is true of each of them.
 has_holds : (P : ℕ → Type 0) (xs : List ℕ) (q : ℕ) → All P xs → has xs q ≡ true → P q
 has_holds P [] q each there = absurd (false≢true there)
 has_holds P (x ∷ xs) q each there = elim (or_cases (q == x) (has xs q) there) [
@@ -58,7 +59,8 @@ has_holds P (x ∷ xs) q each there = elim (or_cases (q == x) (has xs q) there) 
   | inr later ↦ has_holds P xs q (All-tail P x xs each) later
 ]
 
--- blanks that are charged once, each in one of these lots, are no more than the lots have
+-- Blanks that are charged once and are all in these lots are at most as many as the blanks of the
+-- lots.
 pub few_in_lots : (lots : List Lot) (blanks : List ℕ) → AllPairs (λ a b. a ≢ b) blanks → All (λ blank. IsSome (lot_of lots blank)) blanks
     → length blanks ≤ sum_by (λ (l : Lot). l.count) lots
 few_in_lots lots blanks once each =
@@ -67,7 +69,7 @@ few_in_lots lots blanks once each =
     λ q there. among_serials lots q (has_holds (λ blank. IsSome (lot_of lots blank)) blanks q each there) in
     omega (arith, length-le_from_is_member nat_eq_equiv blanks (flat_map serials_of lots) distinct inside, length-all lots)
 
--- each session has a blank of its own: 4,096 lots of 1,000,000 blanks have no more
+-- Each session has its own blank, and there are at most 4,096 lots with 1,000,000 blanks each.
 pub few_sessions : (f : Facts) → IsSound f → length f.sessions ≤ 4096000000
 few_sessions f sound =
     let blanks = map (λ (s : Session). s.blank) f.sessions in

@@ -1,4 +1,4 @@
--- The plain machine, outcome by outcome: what holds of each holds of every step.
+-- The outcomes of the reference model. A property of each outcome is true of every step.
 use Rattle.std.proofs.Common.{◌≡◌, ◌<◌, ◌==◌, ℕ, Bool, true, false, not, cond, List, [], ◌∷◌, ◌++◌, length, Option, Some, None, Result, Ok, Err, ◌⊎◌, inl, inr, refl}
 use Rattle.std.specs.Prelude.{bytes_eq, nat_le}
 use Rattle.std.proofs.lemmas.Bool.{cond_both, eqb-true, false≢true, leb-false, not-false}
@@ -22,12 +22,12 @@ use Rattle.job_facts.specs.States.{any_overlaps, batch_named, first_waiting, is_
 use Rattle.job_facts.proofs.SoundSessions.{running_numbered}
 use Rattle.job_facts.specs.Steps.{Outcome, by_option, in_batch, in_session, known_batch, opened, remade, same_batch, same_lot, same_product, step, step_answer, step_discard, step_import, step_lot, step_open, step_product, step_reset, take_word, taken_in, withdrawn}
 
--- a batch under its name
+-- the batch `b` with its product and file
 abbrev pub named_batch : List ℕ → List ℕ → List ℕ → Batch
 named_batch b p raw = record { name = b; product = p; raw = raw }
 
--- an opening that is made: the batch takes it, the machine is idle, and the blank is one of its
--- product without a charge
+-- An `open` request succeeds: the batch is open, the machine has no running session, and the blank
+-- has the product of the batch and isn't charged.
 pub record Opens (f : Facts) (client b : List ℕ) (blank : ℕ) (r : List ℕ) : Type 0 where
   pub batch : Batch
   pub there : batch_named f.batches b ≡ Some batch
@@ -39,13 +39,13 @@ pub record Opens (f : Facts) (client b : List ℕ) (blank : ℕ) (r : List ℕ) 
   pub free : is_charged f blank ≡ false
   pub waits : first_waiting f b ≡ Some r
 
--- a running session of the client
+-- `x` is session `s`, belongs to `client` and is running.
 pub record IsOwn (f : Facts) (client : List ℕ) (s : ℕ) (x : Session) : Type 0 where
   pub there : session_numbered f.sessions s ≡ Some x
   pub own : x.machine ≡ client
   pub runs : session_state f x ≡ session.Running
 
--- each outcome that leaves the facts
+-- `P` is true of each outcome that leaves the facts unchanged.
 pub record LeavesFacts (f : Facts) (client : List ℕ) (P : Request → Outcome → Type 0) : Type 0 where
   pub refuses : (r : Request) (why : Refusal) → P r (f, reply.Refused why)
   pub faulty : (b p raw : List ℕ) (kept : Product) (fault : RowFault) → batch_of kept raw ≡ Err fault → P (request.Import b p raw) (f, reply.Faulty fault)
@@ -55,7 +55,7 @@ pub record LeavesFacts (f : Facts) (client : List ℕ) (P : Request → Outcome 
   pub busy : (b : List ℕ) (blank s : ℕ) → running_session f client ≡ Some s → P (request.Open b blank) (f, reply.Busy s)
   pub idle : running_session f client ≡ None → P request.Reset (f, reply.Reset 0)
 
--- each that adds a fact
+-- `P` is true of each outcome that adds a fact.
 pub record Adds (f : Facts) (client : List ℕ) (P : Request → Outcome → Type 0) : Type 0 where
   pub product : (p : Product) → product_named f.products p.code ≡ None → length f.products < 256 → P (request.Product p) (with_product f p, reply.Product p.code Created)
   pub lot : (l : Lot) (p : Product) → lot_named f.lots l.name ≡ None → product_named f.products l.product ≡ Some p → any_overlaps f.lots l.first l.count ≡ false
@@ -199,9 +199,9 @@ module _ (f : Facts) (client : List ℕ) (P : Request → Outcome → Type 0) (l
   step_by (request.Close b) = batch_by (request.Close b) b _ (λ batch there more.
       cond_both {A = Outcome} (is_batch_finished f b) _ _ (P (request.Close b)) (λ done. adds.close b batch more there done) (λ no. leaves.refuses _ _))
 
--- ---- what holds of facts alone
+-- ---- properties of the facts only
 
--- each outcome's facts
+-- `P` is true of the facts of each outcome.
 pub record Changes (f : Facts) (client : List ℕ) (P : Request → Facts → Type 0) : Type 0 where
   pub stays : (r : Request) → P r f
   pub product : (p : Product) → product_named f.products p.code ≡ None → length f.products < 256 → P (request.Product p) (with_product f p)
@@ -217,7 +217,7 @@ pub record Changes (f : Facts) (client : List ℕ) (P : Request → Facts → Ty
   pub withdraw : (b r : List ℕ) (failed : Bool) → is_closed f b ≡ false → record_state_of f b r ≡ Some (cond failed rec.Failed rec.Waiting) → P (request.Withdraw b r) (with_withdrawal f b r)
   pub close : (b : List ℕ) (batch : Batch) → is_closed f b ≡ false → batch_named f.batches b ≡ Some batch → is_batch_finished f b ≡ true → P (request.Close b) (with_close f b)
 
--- a machine's running session is its own
+-- The running session of a machine belongs to this machine.
 pub own_there : (f : Facts) (client : List ℕ) (s : ℕ) → running_session f client ≡ Some s → (x : Session) × IsOwn f client s x
 own_there f client s runs =
     let x = running_numbered f client s runs in
@@ -249,7 +249,7 @@ facts_by f client P each =
       close = each.close;
     })
 
--- ---- what holds of sessions alone
+-- ---- properties of the sessions only
 
 pub record SessionChanges (f : Facts) (client : List ℕ) (P : Request → List Session → Type 0) : Type 0 where
   pub stays : (r : Request) → P r f.sessions

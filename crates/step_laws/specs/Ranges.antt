@@ -1,5 +1,5 @@
--- Requests and replies in their ranges, for laws on all values: what a type says in code is a
--- premise here (this project's profile).
+-- The ranges of requests and replies, for lemmas about arbitrary values: what the types guarantee
+-- in code is a premise here (this project's profile).
 use Rattle.std.specs.Prelude.{◌≤◌, ◌<◌, ◌^◌, ℕ, List, slice_index, ⊤}
 use Rattle.store_data.specs.Sequence.{IsProduct}
 use Rattle.job_facts.specs.declared.reply.Reply.{Reply}
@@ -9,7 +9,7 @@ use Rattle.job_facts.specs.declared.request.Request.TheVariants as request
 use Rattle.job_facts.specs.Requests.{IsLotRange}
 use Rattle.job_facts.specs.Sound.{IsName}
 
--- its names are names, and its numbers lie in their ranges
+-- The names in the request are names, and its numbers are in their ranges.
 abbrev pub IsRanged : Request → Type 0
 IsRanged (request.Product p) = IsName p.code × IsProduct p
 IsRanged (request.Lot l) = IsName l.name × IsName l.product × IsLotRange l
@@ -26,8 +26,8 @@ IsRanged (request.Close b) = IsName b
 abbrev pub AreBytes : List ℕ → Type 0
 AreBytes xs = (i : ℕ) → slice_index xs i < 256
 
--- its names are names, its command is bytes, and its numbers are no larger than contents can make
--- them
+-- The names in the reply are names, its command consists of bytes, and its numbers don't exceed the
+-- maximum that sound facts allow.
 abbrev pub IsRangedReply : Reply → Type 0
 IsRangedReply (reply.Product p made) = IsName p
 IsRangedReply (reply.Lot l made) = IsName l

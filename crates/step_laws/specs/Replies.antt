@@ -1,4 +1,5 @@
--- What a reply of the plain machine says: of the request that it answers, and of the facts.
+-- The meaning of a reply of the reference model: the requests that it can belong to, and what it
+-- states about the facts.
 use Rattle.std.specs.Prelude.{◌≡◌, ◌+◌, ℕ, zero, suc, false, List, length, Some, None, IsSome, IsTrue, ⊤}
 use Rattle.batch_import.specs.Batch.{records_of_rows}
 use Rattle.job_facts.specs.declared.facts.RecordState.TheVariants as rec
@@ -14,7 +15,7 @@ use Rattle.job_facts.specs.Facts.{Batch, Facts, Session, new_session}
 use Rattle.job_facts.specs.States.{batch_named, command_at, is_charged, is_closed, lot_named, product_named, record_state, record_state_of, rows_of, running_session, session_numbered, session_state}
 use Rattle.step_laws.specs.Records.{record_by}
 
--- ---- which request may get it
+-- ---- the requests of a reply
 
 abbrev pub MayGetReply : Request → Reply → Type 0
 MayGetReply r (reply.Refused why) = ⊤
@@ -35,27 +36,29 @@ MayGetReply (request.Withdraw b r) (reply.Withdrawn c q) = (c ≡ b) × (q ≡ r
 MayGetReply (request.Close b) (reply.Closed c) = c ≡ b
 MayGetReply _ _ = ⊥
 
--- ---- what it says of the facts
+-- ---- the statements about the facts
 
--- what was known already leaves the facts
+-- If the reply is `Known`, the facts are unchanged.
 abbrev pub LeavesKnown : Made → Facts → Facts → Type 0
 LeavesKnown Created f g = ⊤
 LeavesKnown Known f g = g ≡ f
 
--- session s is this one, and the client's own; it stands so, and its record by it
+-- `x` is session `s`, belongs to `client` and has the state `state`, and its record has the
+-- corresponding state.
 pub record IsSessionOf (g : Facts) (client : List ℕ) (s : ℕ) (x : Session) (state : SessionState) : Type 0 where
   pub there : session_numbered g.sessions s ≡ Some x
   pub own : x.machine ≡ client
   pub stands : session_state g x ≡ state
   pub rec : record_state g x.batch x.rec ≡ record_by state
 
--- the session that a reset names is spoiled; 0 names none, and leaves the facts
+-- The session with the number in a reply to `reset` is spoiled. If the number is 0, the facts are
+-- unchanged.
 abbrev pub IsGivenUp : Facts → Facts → List ℕ → ℕ → Type 0
 IsGivenUp f g client zero = g ≡ f
 IsGivenUp f g client (suc s) = (x : Session) × IsSessionOf g client (suc s) x session.Spoiled
 
--- what a client's reply says of the facts before it and after it. What is not named is a refusal,
--- which leaves them.
+-- the statement that a reply to `client` makes about the facts `f` before and `g` after its
+-- request. All replies not listed are refusals, which leave the facts unchanged.
 abbrev pub Says : Facts → Facts → List ℕ → Reply → Type 0
 Says f g client (reply.Product p made) = IsSome (product_named g.products p) × LeavesKnown made f g
 Says f g client (reply.Lot l made) = IsSome (lot_named g.lots l) × LeavesKnown made f g

@@ -1,4 +1,5 @@
-//! Good cards: each is good for good, and alone for its record.
+//! Lemmas about good cards: a good session stays good, and is the only one of its record and of its
+//! blank.
 ghost use Rattle.std.specs.Prelude.{◌≡◌, ◌<◌, ℕ, List, Some, length};
 ghost use Rattle.job_facts.specs.declared.facts.RecordState.TheVariants as rec;
 ghost use Rattle.job_facts.specs.declared.facts.SessionState.TheVariants as session;
@@ -9,7 +10,7 @@ ghost use Rattle.job_facts.specs.States.{session_state};
 ghost use Rattle.step_laws.specs.Later.{Later};
 ghost use Rattle.step_laws.specs.Records.{WordsGo};
 
-/// A session that is good stays as it is, and good. A record that is good stays so.
+/// Lemma: a good session is unchanged and good in all later facts. A good record stays good.
 pub fn good_stays_good()
     ensures session { (f g : Facts) → Later f g → (s : ℕ) (x : Session)
         → session_numbered f.sessions s ≡ Some x → session_state f x ≡ session.Good
@@ -18,7 +19,7 @@ pub fn good_stays_good()
         → record_state f b r ≡ rec.Good → record_state g b r ≡ rec.Good }
 {}
 
-/// Two good sessions of one record are one session.
+/// Lemma: a record has at most one good session.
 pub fn record_has_one_good_session()
     ensures { (f : Facts) (s t : ℕ) (x y : Session) → IsSound f
         → session_numbered f.sessions s ≡ Some x → session_numbered f.sessions t ≡ Some y
@@ -26,15 +27,16 @@ pub fn record_has_one_good_session()
         → y.batch ≡ x.batch → y.rec ≡ x.rec → s ≡ t }
 {}
 
-/// Two sessions on one blank are one session.
+/// Lemma: a blank has at most one session.
 pub fn blank_has_one_session()
     ensures { (f : Facts) (s t : ℕ) (x y : Session) → IsSound f
         → session_numbered f.sessions s ≡ Some x → session_numbered f.sessions t ≡ Some y
         → x.blank ≡ y.blank → s ≡ t }
 {}
 
-/// The card of a good session gave a word to each command, and each goes. Each word of a running
-/// one goes, and a command is left.
+/// Lemma: a good session has a status word for each command of its record, and every status word
+/// lets the session continue. In a running session, every status word lets the session continue,
+/// and at least one command is left.
 pub fn words_of_good_sessions_go()
     ensures good { (f : Facts) (s : ℕ) (x : Session) → IsSound f
         → session_numbered f.sessions s ≡ Some x → session_state f x ≡ session.Good

@@ -1,5 +1,5 @@
-//! Laws of the plain machine: what its steps keep, and what its replies say of the facts. Each
-//! function does nothing; who calls it has its law.
+//! Lemmas about the reference model: the invariants of its steps, and the meaning of its replies.
+//! The functions do nothing: each contract is a fact for the proofs of its callers.
 #![tactic(auto)]
 
 mod cards;

@@ -1,4 +1,4 @@
-//! What becomes of sessions.
+//! Lemmas about sessions.
 ghost use Rattle.std.specs.Prelude.{◌≡◌, ◌≤◌, ◌+◌, ℕ, List, false, length};
 ghost use Rattle.job_facts.specs.declared.request.Request.{Request as RequestValue};
 ghost use Rattle.job_facts.specs.Facts.{Facts};
@@ -8,8 +8,9 @@ ghost use Rattle.step_laws.specs.Later.{AnswersWithin, KnowsMore, Later, OtherSe
 ghost use Rattle.step_laws.specs.Later.{TakesInTurn};
 ghost use Rattle.step_laws.specs.Later.{WordsWithin, is_on_session};
 
-/// A session only grows: it stays the same card's, words come behind its words, an end stays, and
-/// one that is good or spoiled is left as it is. What else is known stays known.
+/// Lemma: a session only grows. It keeps its machine, record and blank. Status words are only
+/// appended. A session that was ended stays ended, and a good or spoiled session never changes.
+/// Other facts are added, but never changed or removed.
 pub fn sessions_only_grow()
     ensures knows { (f : Facts) (client : List ℕ) (r : RequestValue)
         → KnowsMore f (step f client r).0 }
@@ -19,8 +20,9 @@ pub fn sessions_only_grow()
     ensures more { (f g h : Facts) → Later f g → Later g h → Later f h }
 {}
 
-/// A request changes no other machine's session, and opens none for it. An answer adds its word
-/// where it is for the session's next place, and no other request adds one.
+/// Lemma: a request changes no session of another client, and opens none for it. An `answer` adds
+/// its status word only if its index is the next index of the session, and no other request adds a
+/// status word.
 pub fn only_its_machine_changes_a_session()
     ensures others { (f : Facts) (client : List ℕ) (r : RequestValue)
         → OtherSessionsStay client f (step f client r).0 }

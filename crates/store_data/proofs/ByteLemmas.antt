@@ -1,4 +1,4 @@
--- The commands of rows of bytes are of bytes.
+-- If the rows consist of bytes, their commands consist of bytes.
 use Rattle.std.proofs.Common.{◌≤◌, ◌<◌, ◌+◌, ◌*◌, ◌/◌, ◌%◌, ℕ, Bool, cond, List, [], ◌∷◌, ◌++◌, length, map, drop, get_or, All, sym, subst, arith}
 use Rattle.std.specs.Prelude.{◌==◌, ◌&&◌, nat_le}
 use Rattle.std.specs.Int.{w16, to_be_bytes}
@@ -29,7 +29,7 @@ all_numbered {X = X} P n m [] few all = All-nil (λ (e : ℕ × X). (e.0 < m) ×
 all_numbered {X = X} P n m (x ∷ xs) few all =
     All-cons (λ (e : ℕ × X). (e.0 < m) × P e.1) (n, x) (enumerate_from (n + 1) xs) (omega (arith, few), All-head P x xs all) (all_numbered P (n + 1) m xs (omega (arith, few)) (All-tail P x xs all))
 
--- ---- sent forms
+-- ---- shortest encodings
 
 byte_cons : (x : ℕ) (xs : List ℕ) → x < 256 → AreBytes xs → AreBytes (x ∷ xs)
 byte_cons x xs small all = All-cons (λ b. b < 256) x xs small all
@@ -140,7 +140,7 @@ application_commands_bytes max low a most small is bytes =
     (All-weaker (λ (e : ℕ × Piece). (e.0 < 256) × IsBytePiece max e.1) (λ (e : ℕ × Piece). IsByteCommand (make e))
     (λ e one. command_bytes max low (e.0 + 1 == length pieces) e.0 e.1 most small one.0 one.1) (enumerate_from 0 pieces) numbered))
 
--- the commands of a plan of rows of bytes
+-- the commands of a plan for rows of bytes
 pub plan_bytes : (p : Product) (rows : List Row) → IsPlan (plan_of p rows) → All IsByteRow rows → All IsByteCommand (commands_of (plan_of p rows))
 unfolding commands_of
 plan_bytes p rows is all =

@@ -1,5 +1,5 @@
--- Items by rank: one item more, of no lower rank than those before, and items that a stable sort
--- has moved.
+-- Items by rank: appending an item whose rank isn't lower than the ranks before it, and the effect
+-- of a stable sort.
 use Rattle.std.proofs.Common.{◌≡◌, ◌≢◌, ℕ, zero, suc, ◌+◌, ◌-◌, ◌<◌, ◌≤◌, Bool, true, cond, eqb, not, ◌&&◌, ◌⊎◌, inl, inr, List, [], ◌∷◌, ◌++◌, length, get_or, filter, All, refl, sym, ap, subst, ◌∙◌, arith}
 use Rattle.std.specs.List.{flat_map, range_with_len}
 use Rattle.std.specs.List.Sorted.{IsNonDecreasingBy, IsPermutation, IsStableBy, ties}
@@ -17,7 +17,7 @@ use Rattle.store_data.specs.Groups.{joined_at}
 use Rattle.store_data.specs.Ranks.{IsRank, ranks, group_of, of_rank, by_rank}
 use Rattle.store_data.specs.Sequence.{rows_of_rank, segment_of, segments_of}
 
--- ---- lists joined end to end
+-- ---- joined lists
 
 range_with_len_split : (a n m : ℕ) → range_with_len a (n + m) ≡ range_with_len a n ++ range_with_len (a + n) m
 range_with_len_split a zero m = let e : 0 + m ≡ m = omega arith in let b : a + 0 ≡ a = omega arith in rw (e, b) refl
@@ -74,13 +74,13 @@ group_of-push : {X : Type 0} (g : List X) (x : X) → group_of (g ++ x ∷ []) �
 group_of-push [] x = refl
 group_of-push (y ∷ g) x = refl
 
--- an item goes to the end of the last group, or into a new one
+-- An item is appended to the last group, or becomes a new group.
 joined_at-last : {X : Type 0} (low : List (List X)) (g : List X) (x : X) → joined_at (low ++ group_of g) (length low) x ≡ low ++ (g ++ x ∷ []) ∷ []
 joined_at-last [] [] x = refl
 joined_at-last [] (y ∷ g) x = refl
 joined_at-last (h ∷ low) g x = ap (λ gs. h ∷ gs) (joined_at-last low g x)
 
--- ---- the items of a rank
+-- ---- the items with a rank
 
 module _ {X : Type 0} (rank : X → ℕ) where
   of_rank-push-here : (xs : List X) (x : X) (r : ℕ) → rank x ≡ r → of_rank rank (xs ++ x ∷ []) r ≡ of_rank rank xs r ++ x ∷ []
@@ -93,7 +93,7 @@ module _ {X : Type 0} (rank : X → ℕ) where
       ∙ ap (λ b. of_rank rank xs r ++ cond b (x ∷ []) []) (ne_eqb (rank x) r differ)
       ∙ append-nil (of_rank rank xs r)
 
-  -- none is above the highest
+  -- No item has a rank above the highest.
   of_rank-above : (xs : List X) (k r : ℕ) → All (λ x. rank x ≤ k) xs → k < r → of_rank rank xs r ≡ []
   of_rank-above [] k r top above = refl
   of_rank-above (x ∷ xs) k r top above =
@@ -110,7 +110,7 @@ module _ {X : Type 0} (rank : X → ℕ) where
   abbrev groups_below : ℕ → List X → List (List X)
   groups_below k xs = flat_map (λ r. group_of (of_rank rank xs r)) (range_with_len 1 (k - 1))
 
-  -- the groups of items that are of rank k at most
+  -- the groups of items with ranks up to `k`
   by_rank-upto : (xs : List X) (k : ℕ) → IsRank k → All (λ x. rank x ≤ k) xs → by_rank rank xs ≡ groups_below k xs ++ group_of (of_rank rank xs k)
   unfolding by_rank ranks
   by_rank-upto xs k is top =
@@ -125,7 +125,7 @@ module _ {X : Type 0} (rank : X → ℕ) where
       ∙ ap (λ gs. groups_below k xs ++ (f k ++ gs)) above
       ∙ ap (λ gs. groups_below k xs ++ gs) (append-nil (f k))
 
-  -- ---- one item more
+  -- ---- one more item
 
   module _ (xs : List X) (x : X) (is : IsRank (rank x)) (top : All (λ y. rank y ≤ rank x) xs) where
     by_rank-push : by_rank rank (xs ++ x ∷ []) ≡ joined_at (by_rank rank xs) (length (groups_below (rank x) xs)) x
@@ -141,7 +141,8 @@ module _ {X : Type 0} (rank : X → ℕ) where
         ∙ sym (joined_at-last (groups_below k xs) (of_rank rank xs k) x)
         ∙ ap (λ gs. joined_at gs (length (groups_below k xs)) x) (sym (by_rank-upto xs k is top))
 
-  -- the groups of items whose last has this rank, which is 0 where there is none
+  -- `groups` are the groups of `xs`, and `last` is the rank of the last item, or 0 if there are no
+  -- items.
   pub record AreByRank (groups : List (List X)) (last : ℕ) (xs : List X) : Type 0 where
     pub each : groups ≡ by_rank rank xs
     pub top : All (λ x. rank x ≤ last) xs
@@ -194,7 +195,7 @@ module _ {X : Type 0} (rank : X → ℕ) where
 
   -- ---- a stable sort
 
-  -- the items before one in a sorted list are of no higher rank
+  -- In a sorted list, the items before `x` don't have a higher rank than `x`.
   pub sorted_top : (sorted xs : List X) (x : X) (rest : List X) → IsNonDecreasingBy rank sorted → xs ++ x ∷ rest ≡ sorted → All (λ y. rank y ≤ rank x) xs
   sorted_top sorted xs x rest rises e = λ i d within.
       let here : get_or (xs ++ x ∷ rest) (length xs) d ≡ x = get_or-append_seam xs x rest d in
@@ -203,7 +204,7 @@ module _ {X : Type 0} (rank : X → ℕ) where
       let order = subst (IsNonDecreasingBy rank) (sym e) rises i (length xs) d (omega arith) inside in
       rw (← there) (subst (λ y. rank (get_or (xs ++ x ∷ rest) i d) ≤ rank y) here order)
 
-  -- the next item of a sorted list, after those before it
+  -- the next item of a sorted list
   pub turn : (items sorted xs : List X) (x : X) (rest : List X) → All (λ y. IsRank (rank y)) items → IsPermutation items sorted → IsNonDecreasingBy rank sorted
       → xs ++ x ∷ rest ≡ sorted → IsRank (rank x) × All (λ y. rank y ≤ rank x) xs
   turn items sorted xs x rest ranked moved rises e =
@@ -222,7 +223,7 @@ module _ {X : Type 0} (rank : X → ℕ) where
   abbrev lower : X → X → Bool
   lower x y = is_lt (nat_cmp (rank x) (rank y))
 
-  -- items tie where their ranks are the same
+  -- Items with the same rank are equal in the sort order.
   ties-rank : (r s : ℕ) → (not (is_lt (nat_cmp r s)) && not (is_lt (nat_cmp s r))) ≡ eqb s r
   ties-rank r s = grind (arith, nat_tests)
 
@@ -247,7 +248,7 @@ module _ {X : Type 0} (rank : X → ℕ) where
 
   -- ---- the groups
 
-  -- what holds of the items of each rank holds of each group
+  -- If `P` is true of the items of each rank, it is true of each group.
   pub by_rank-each : (P : List X → Type 0) (items : List X) → ((r : ℕ) → 1 ≤ length (of_rank rank items r) → P (of_rank rank items r)) → All P (by_rank rank items)
   unfolding by_rank
   by_rank-each P items holds =
@@ -259,7 +260,7 @@ module _ {X : Type 0} (rank : X → ℕ) where
       subst (λ (n : ℕ). length (flat_map (λ r. group_of (of_rank rank items r)) ranks) ≤ n) length-ranks
       (length-flat_map-le (λ r. group_of (of_rank rank items r)) (λ r. length-group_of (of_rank rank items r)) ranks)
 
--- an application's segments are those of its rows by rank
+-- The segments of an application are the segments of its rows grouped by rank.
 segment_of-group : (rows : List Row) → flat_map segment_of (group_of rows) ≡ segment_of rows
 segment_of-group [] = refl
 segment_of-group (row ∷ more) = append-nil (segment_of (row ∷ more))

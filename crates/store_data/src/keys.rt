@@ -1,4 +1,4 @@
-//! Keys, each once, by first appearance.
+//! A set of keys in order of first appearance.
 ghost use Rattle.std.specs.Prelude.{◌≡◌, [], Some, bytes_eq, length, slice_get, IfOk, IfSome, OnOk};
 ghost use Rattle.std.specs.List.{position_or_len};
 ghost use Rattle.store_data.specs.Groups.{with_key};
@@ -8,7 +8,7 @@ use indexmap::IndexSet;
 use std::alloc::{AllocError, Global};
 use std::marker::Model;
 
-/// Keys, each once, by first appearance.
+/// A set of keys in order of first appearance.
 #[derive(Drop)]
 pub struct Keys {
     keys: IndexSet<ShortBytes<32>>,
@@ -26,7 +26,7 @@ impl Model for Keys {
 }
 
 impl Keys {
-    /// No keys. It takes no memory.
+    /// Creates an empty set. Allocates nothing.
     pub fn new(alloc: Global) -> Keys
         ensures { result ≡ [] }
     {
@@ -35,16 +35,21 @@ impl Keys {
         }
     }
 
-    /// How many keys there are.
+    /// Returns the number of keys.
     pub fn len(&self) -> usize
         ensures { result ≡ length self.now }
     {
         self.keys.len()
     }
 
-    /// The place of a key, which goes to the end where it is new.
+    /// Returns the position of `key`. If the set doesn't contain `key`, appends it.
     ///
-    /// What has one key mostly stands together: so the last key is compared before one is hashed.
+    /// Items with the same key are usually adjacent, so `key` is compared with the last key before
+    /// it is hashed.
+    ///
+    /// # Errors
+    ///
+    /// Returns `AllocError` if an allocation fails.
     pub fn place_of(&mut self, key: ShortBytes<32>) -> Result<usize, AllocError>
         ensures keys { OnOk result (self.new ≡ with_key self.old key) }
         ensures place { IfOk result (λ place. place ≡ position_or_len (bytes_eq key) self.old) }
@@ -56,7 +61,7 @@ impl Keys {
         Ok(place)
     }
 
-    // The place of a key that is the last.
+    // Returns the last position if the last key is `key`.
     fn last_place(&self, key: &ShortBytes<32>) -> Option<usize>
         ensures { IfSome result (λ place. slice_get self.now place ≡ Some key.now) }
     {

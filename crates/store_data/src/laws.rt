@@ -1,10 +1,11 @@
-//! Laws of names. The function does nothing; who calls it has its law.
+//! A lemma about names. The function does nothing: its contract is a fact for the proofs of its
+//! callers.
 ghost use Rattle.std.specs.Prelude.{IsTrue};
 ghost use Rattle.store_data.specs.Name.{is_name};
 
 use crate::name::Name;
 
-/// The characters of a name are those of a name.
+/// Lemma: the characters of `name` satisfy `is_name`.
 pub fn is_a_name(name: &Name)
     ensures { IsTrue (is_name name.now) }
 {

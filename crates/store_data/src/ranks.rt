@@ -1,22 +1,22 @@
-//! Items by rank: the place of a row's segment in its application.
+//! Groups items by rank. The rank of a row determines the position of its segment in the
+//! application.
 ghost use Rattle.std.specs.Prelude.{◌≡◌, ℕ, All, IfOk, map};
 ghost use Rattle.store_data.specs.Ranks.{IsRank, by_rank};
 
 use crate::groups::join_at;
 use std::alloc::{AllocError, Global};
 
-/// What has a rank.
+/// An item with a rank.
 pub(crate) trait Ranked {
     ghost rank: { Self → ℕ };
 
-    /// The rank, 1 to 999.
+    /// Returns the rank, 1 to 999.
     fn rank(&self) -> u16
         ensures { result ≡ rank self.now };
 }
 
-/// The items of each rank that has one, in their order, by rising rank.
-///
-/// The time is that of a sort of the items.
+/// Groups `items` by rank, in the order of rising rank. The items of a group keep their order.
+/// Takes as long as sorting the items.
 pub(crate) fn by_rank<T: Ranked + Drop>(
     alloc: Global,
     items: Vec<T>,

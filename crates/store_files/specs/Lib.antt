@@ -1,3 +1,4 @@
 pub mod Unopened
 pub mod Ending
 pub mod Files
+pub mod Wal

@@ -1,5 +1,5 @@
--- Why SQLite doesn't open a file, by its error and by what the file system says of the path (this
--- project's profile).
+-- The faults for files that SQLite doesn't open. They depend on its error and on what the file
+-- system reports about the path (this project's profile).
 use Rattle.std.specs.Prelude.{false, Result, Ok, Err}
 use Rattle.std.specs.declared.alloc.AllocError.{AllocError}
 use Rattle.sqlite.specs.declared.error.Error.{Error}
@@ -12,13 +12,13 @@ use Rattle.over_tables.specs.declared.fault.FileFault.TheVariants.{NotOurs, Stor
 use Rattle.store_files.specs.declared.place.Place.{Place}
 use Rattle.store_files.specs.declared.place.Place.TheVariants as place
 
--- it isn't there, and isn't to be made
+-- the fault for a file that doesn't exist and must not be created
 abbrev pub absent : Place → FileFault
 absent place.NoFolder = NotOurs cause.NoFolder
 absent _ = NotOurs cause.NoFile
 
--- SQLite can't open it: what isn't there can't be made, and of a file that can be opened it is the
--- log that can't
+-- the reason why SQLite can't open a file at this place; a file that doesn't exist can't be
+-- created, and if the file itself can be opened, its WAL can't
 abbrev pub cannot_open : Place → Cause
 cannot_open place.NoFile = cause.NoRight
 cannot_open place.NoFolder = cause.NoFolder
@@ -29,13 +29,14 @@ cannot_open place.Journal = cause.Journal
 cannot_open (place.File is_sqlite) = cause.NoRight
 cannot_open place.Unclear = cause.CannotOpen
 
--- it is no database that can be read
+-- the cause for a file that isn't a valid database: `NotSqlite` if it doesn't begin like a file
+-- that SQLite wrote, otherwise `other`
 abbrev pub unread : Cause → Place → Cause
 unread other (place.File false) = cause.NotSqlite
 unread other _ = other
 
--- What SQLite doesn't open for another cause than memory or the device is not ours. By Err, memory
--- was refused as the file system was asked of the path.
+-- the fault for an error of SQLite and the place of the file, where `Err` means that an allocation
+-- failed when the place was determined; only errors of memory and of the device aren't refusal 81
 abbrev pub of_opening : Error → Result Place AllocError → FileFault
 of_opening (SqliteFailure code.OutOfMemory) p = Memory
 of_opening (SqliteFailure code.SystemIoFailure) p = Storage

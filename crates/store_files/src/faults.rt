@@ -1,4 +1,4 @@
-//! Why a file is not opened.
+//! Finds the fault for a database file that isn't opened.
 ghost use Rattle.std.specs.Prelude.{◌≡◌};
 ghost use Rattle.store_files.specs.Unopened.{absent, cannot_open, of_opening};
 
@@ -7,7 +7,7 @@ use over_tables::{Cause, FileFault};
 use sqlite::{Error, ErrorCode};
 use std::alloc::AllocError;
 
-// Why a file that is not there isn't ours.
+// Returns the refusal of a file that doesn't exist and must not be created.
 pub(crate) fn absent(place: Place) -> FileFault
     ensures { result ≡ absent place }
 {
@@ -18,7 +18,8 @@ pub(crate) fn absent(place: Place) -> FileFault
     FileFault::NotOurs { cause }
 }
 
-// Why SQLite can't open a file, by what the file system says of its path.
+// Returns the reason why SQLite can't open a file at `place`. If the file doesn't exist, it can't
+// be created. If the file itself can be opened, its WAL can't.
 fn cannot_open(place: Place) -> Cause
     ensures { result ≡ cannot_open place }
 {
@@ -32,8 +33,9 @@ fn cannot_open(place: Place) -> Cause
     }
 }
 
-/// Why SQLite didn't open a file, by its error and by what the file system says of the path, unless
-/// memory was refused as it was asked.
+/// Returns the fault for a file that SQLite didn't open because of `error`. `place` is the result
+/// of `place_of` for its path. If an allocation failed there, the result is `Memory`, unless the
+/// fault doesn't depend on `place`.
 pub fn unopened(error: Error, place: Result<Place, AllocError>) -> FileFault
     ensures { result ≡ of_opening error place }
 {

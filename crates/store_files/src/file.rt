@@ -1,20 +1,21 @@
-//! The store in the file at a path.
+//! Opens the store in a database file, and runs a task over it.
 ghost use Rattle.std.specs.Prelude.{◌≡◌, codes, false, IfErr, IfOk, IsErrAnd};
 ghost use Rattle.sqlite.specs.WalFiles.{image_at};
 ghost use Rattle.sqlite_std_file.specs.File.{IsFresh};
 ghost use Rattle.over_tables.specs.Refusals.{IsNotOurs};
 ghost use Rattle.store_files.specs.Files.{IsNotTaken, IsTurnedDown, OverFiles, RunsOver};
 
-use crate::faults::{absent, unopened};
+use crate::faults::absent;
 use crate::new_file::create_private;
 use crate::place::{has_log, is_missing, place_of};
+use crate::wal::open_whole;
 use over_tables::{FileFault, Wanted, begins, store_over};
 use schema::SqlStore;
 use sqlite::{Connection, FileFrom, FileStore};
 use sqlite_disk::{Disk, Start};
 use std::alloc::Global;
 
-/// What is done with the store of a file.
+/// A task that uses the store in a database file, and closes it.
 pub trait StoreTask {
     ghost use Rattle.sqlite.specs.Files.{over_files};
     ghost use Rattle.job_facts.specs.Store.{State};
@@ -22,29 +23,45 @@ pub trait StoreTask {
     ghost use Rattle.store_files.specs.Ending.{AtEnd};
     ghost use Rattle.store_files.specs.declared.file.Found.{Found as How};
 
-    /// What comes of it.
+    /// The result of the task.
     type Done: Drop;
 
-    /// Whether this comes of it, by how the file was found, the store, and what holds at the end of
-    /// the store and of its file's being whole.
+    /// `ran task found state at_end done` says that the task has the result `done` if its file was
+    /// found as `found` and its store is in the state `state`. `at_end` is about the last state of
+    /// the store and about the statement that the database file is then complete.
     ghost ran: { Self → How → State → ((State → Type 0 → Type 0) → Type 0) → Self.Done → Type 0 };
 
-    /// Does it, and closes the store.
+    /// Performs the task with `store`, and closes the store.
     fn perform<D: Disk + Drop>(self, store: SqlStore<FileStore<D>>, found: Found) -> Self::Done
         ensures { ran self found (stands_for over_files store) (AtEnd D.Disk) result };
 }
 
-/// How a file was found.
+/// The state of a database file before a task.
 #[derive(Clone, Copy, Debug, PartialEq, Eq)]
 pub struct Found {
-    /// Whether it was empty, so that a new store began.
+    /// `true` if the database was empty, so that a new store was created.
     pub is_new: bool,
-    /// Whether a log with something for the file stood beside it.
+    /// `true` if there was a WAL next to the file that was longer than after an ordinary exit, so
+    /// it may have commits for the file.
     pub has_log: bool,
 }
 
-/// Opens the store in the file at a path, and has the task done, which closes it. Errors: why the
-/// file is not taken, and then nothing was done. `start` stands for what the two files held before.
+/// Opens the store in the database file at `path`, and performs `task`, which closes the store.
+/// `wanted` says whether a new store may be created. `start` represents the contents of the two
+/// files before the call. The contract holds for any such contents, and doesn't relate them to
+/// `path`.
+///
+/// A new database has no page checksums, because SQLite's own library wouldn't keep them correct.
+///
+/// # Errors
+///
+/// Returns the reason why the file isn't opened. The task is then not performed.
+///
+/// - `NotOurs`: `path` is `:memory:`, the file doesn't exist and must not be created, its WAL is
+///   damaged, SQLite can't open it, or its tables don't have the form of any schema version.
+/// - `Damaged`: the rows don't represent sound contents.
+/// - `Storage`: the device of the file failed or is full.
+/// - `Memory`: an allocation fails.
 pub fn with_store<T: StoreTask + Drop, S: Start>(
     rt: &HostRuntime,
     path: &str,
@@ -63,16 +80,13 @@ pub fn with_store<T: StoreTask + Drop, S: Start>(
     }
     let has_log = has_log(rt, path)?;
     create_private(rt, path, wanted)?;
-    match Connection::open_from(rt, path, false, start) {
+    match open_whole(rt, path, start) {
         Ok(conn) => run_over(rt.alloc(), conn, has_log, wanted, task),
-        Err((error, left)) => {
-            drop(left);
-            Err(unopened(error, place_of(rt, path)))
-        }
+        Err(fault) => Err(fault),
     }
 }
 
-// Has the task done over the store of a connection.
+// Opens the store over the database `conn`, and performs `task`.
 fn run_over<T: StoreTask + Drop, D: Disk + Drop>(
     alloc: Global,
     conn: Connection<FileStore<D>>,

@@ -1,4 +1,8 @@
-//! What the file system says of a path.
+//! Examines a path: the file that has it, and the journal and the WAL next to this file.
+//!
+//! No contract states what the file system returns. Tests show that every call reports a failed
+//! allocation as `AllocError` (`answer_of`), except for the `read_exact` in `place_by_head` and the
+//! `exists` in `is_missing`.
 ghost use Rattle.std.specs.Prelude.{◌≡◌, ◌↔◌, codes, false, IfOk, IsErr, IsErrAnd, IsTrue, Ok};
 ghost use Rattle.std.specs.IoError.{error_kind};
 
@@ -8,36 +12,42 @@ use std::io::{self, ErrorKind, Read};
 use std::os::unix::fs::MetadataExt;
 use std::path::PathBuf;
 
-/// The first bytes of a file that SQLite wrote.
+/// The magic header string of a database file (SQLite's database file format, section 1.3.1).
 const HEAD: &[u8] = b"SQLite format 3\0";
 
-/// The most bytes of a log that has nothing for its file: a clean end leaves so many.
+/// The length of the WAL after an ordinary exit. It has no commits, but a longer WAL may have some.
 const EMPTY_LOG: u64 = 41;
 
-/// What the file system says of a path.
+/// The object at a path, as reported by the file system.
 #[derive(Clone, Copy, Debug, PartialEq, Eq)]
 pub enum Place {
-    /// Nothing has the path, and its folder is there.
+    /// Nothing. The folder of the path exists.
     NoFile,
-    /// Nothing has the path, and its folder isn't there.
+    /// Nothing. The folder of the path doesn't exist, or isn't a folder.
     NoFolder,
-    /// A folder has it.
+    /// A folder.
     Folder,
-    /// A device, a socket, a link that leads nowhere or a file with a further name has it, or it is
-    /// no path for SQLite.
+    /// A device, a socket, a broken link or a file with a second name (a hard link), or a path that
+    /// isn't the path of a file for SQLite.
     Special,
-    /// The user may not read and write what has it.
+    /// An object that the user isn't allowed to access, or a file that the user isn't allowed to
+    /// read and write.
     NoRight,
-    /// A journal stands beside it, which only SQLite itself can undo.
+    /// A file with a rollback journal next to it, which only SQLite's own library can undo.
     Journal,
-    /// A file has it that can be read and written. Whether it is empty or begins as SQLite's do.
+    /// A file that can be read and written. `is_sqlite` is `true` if it is empty or begins like a
+    /// file that SQLite wrote.
     File { is_sqlite: bool },
-    /// The file system doesn't say.
+    /// An object that the file system couldn't examine because of some other error.
     Unclear,
 }
 
-/// What the file system says of a path. A file that has it is opened, its first bytes are read, and
-/// it is closed again. Errors: memory was refused.
+/// Returns the object at `path`. If it is a file, the function opens it, reads its first bytes and
+/// closes it.
+///
+/// # Errors
+///
+/// Returns `AllocError` if an allocation fails.
 pub fn place_of<R: Files + AllocGlobal>(rt: &R, path: &str) -> Result<Place, AllocError>
     ensures memory { path.now ≡ codes ":memory:" → result ≡ Ok Place.Special }
 {
@@ -48,7 +58,12 @@ pub fn place_of<R: Files + AllocGlobal>(rt: &R, path: &str) -> Result<Place, All
     place_at(rt, real.as_str())
 }
 
-/// Whether a log with something for its file stands beside a path. Errors: memory was refused.
+/// Returns `true` if there is a WAL next to the file at `path`, and this WAL is longer than after
+/// an ordinary exit. Only a test shows that the WAL isn't changed.
+///
+/// # Errors
+///
+/// Returns `AllocError` if an allocation fails.
 pub fn has_log<R: Files + AllocGlobal>(rt: &R, path: &str) -> Result<bool, AllocError>
     ensures memory { path.now ≡ codes ":memory:" → result ≡ Ok false }
 {
@@ -59,7 +74,12 @@ pub fn has_log<R: Files + AllocGlobal>(rt: &R, path: &str) -> Result<bool, Alloc
     has_more(rt, log.as_str(), EMPTY_LOG)
 }
 
-/// Whether there are more bytes under a path. Errors: memory was refused.
+/// Returns `true` if there is a file at `path` with more than `most` bytes. The result is `false`
+/// if the file system returns an error other than out of memory.
+///
+/// # Errors
+///
+/// Returns `AllocError` if an allocation fails.
 pub fn has_more<R: Files>(files: &R, path: &str, most: u64) -> Result<bool, AllocError> {
     match answer_of(fs::metadata(files, path))? {
         Ok(found) => Ok(found.len() > most),
@@ -67,7 +87,12 @@ pub fn has_more<R: Files>(files: &R, path: &str, most: u64) -> Result<bool, Allo
     }
 }
 
-/// Whether a path is one of a file, and no file has it. Errors: memory was refused.
+/// Returns `true` if `path` is the path of a file, and this file doesn't exist. The result is
+/// `false` if the file system returns an error other than out of memory.
+///
+/// # Errors
+///
+/// Returns `AllocError` if an allocation fails.
 pub(crate) fn is_missing<R: Files>(files: &R, path: &str) -> Result<bool, AllocError>
     ensures memory { path.now ≡ codes ":memory:" → result ≡ Ok false }
 {
@@ -80,14 +105,15 @@ pub(crate) fn is_missing<R: Files>(files: &R, path: &str) -> Result<bool, AllocE
     }
 }
 
-// Whether a path is one of SQLite's names for what is no file.
+// Returns `true` if SQLite doesn't take `path` for the path of a file: `:memory:` is a database in
+// memory, and `file:` begins a URI.
 pub(crate) fn names_no_file(path: &str) -> bool
     ensures { path.now ≡ codes ":memory:" → IsTrue result }
 {
     path == ":memory:" || path.starts_with("file:")
 }
 
-// What the file system answers a call, if it isn't that memory was refused.
+// Returns the answer of the file system, or `AllocError` if it is out of memory.
 pub(crate) fn answer_of<T: Drop>(answer: io::Result<T>) -> Result<io::Result<T>, AllocError>
     ensures same { IfOk result (λ same. same ≡ answer) }
     ensures refused { IsErr result ↔ IsErrAnd answer (λ e. error_kind e ≡ ErrorKind.OutOfMemory) }
@@ -98,7 +124,7 @@ pub(crate) fn answer_of<T: Drop>(answer: io::Result<T>) -> Result<io::Result<T>,
     }
 }
 
-// The path with no link in it, where something has it.
+// Returns `path` with all links resolved, or unchanged if they can't be resolved.
 fn real_path<R: Files + AllocGlobal>(rt: &R, path: &str) -> Result<PathBuf, AllocError> {
     match answer_of(fs::canonicalize(rt, path))? {
         Ok(real) => Ok(real),
@@ -106,7 +132,7 @@ fn real_path<R: Files + AllocGlobal>(rt: &R, path: &str) -> Result<PathBuf, Allo
     }
 }
 
-// The path of what stands beside a file, under its name with an ending.
+// Returns the path of a file next to the one at `path`: its name with `end` appended.
 fn beside<R: Files + AllocGlobal>(rt: &R, path: &str, end: &str) -> Result<String, AllocError> {
     let real = real_path(rt, path)?;
     format!(in rt.alloc(); "{}{end}", real.as_str())
@@ -122,7 +148,7 @@ fn place_at<R: Files + AllocGlobal>(rt: &R, path: &str) -> Result<Place, AllocEr
     }
 }
 
-// Something has the path.
+// Returns the place of an existing object.
 fn place_found<R: Files + AllocGlobal>(
     rt: &R,
     path: &str,
@@ -139,13 +165,13 @@ fn place_found<R: Files + AllocGlobal>(
     }
 }
 
-// Whether a journal stands beside a file.
+// Returns `true` if there is a journal next to the file at `path`, and this journal isn't empty.
 fn has_journal<R: Files + AllocGlobal>(rt: &R, path: &str) -> Result<bool, AllocError> {
     let journal = beside(rt, path, "-journal")?;
     has_more(rt, journal.as_str(), 0)
 }
 
-// A file has the path.
+// Returns the place of an ordinary file.
 fn place_of_file<R: Files>(files: &R, path: &str, is_empty: bool) -> Result<Place, AllocError> {
     match answer_of(OpenOptions::new().read(true).write(true).open(files, path))? {
         Ok(_) if is_empty => Ok(Place::File { is_sqlite: true }),
@@ -154,7 +180,7 @@ fn place_of_file<R: Files>(files: &R, path: &str, is_empty: bool) -> Result<Plac
     }
 }
 
-// A file was opened: its first bytes say whether it begins as SQLite's do.
+// Returns the place of an opened file, depending on its first bytes.
 fn place_by_head<F: Read>(file: &mut F) -> Result<Place, AllocError> {
     let mut head = [0; 16];
     match answer_of(file.read_exact(&mut head))? {
@@ -168,7 +194,7 @@ fn place_by_head<F: Read>(file: &mut F) -> Result<Place, AllocError> {
     }
 }
 
-// Nothing has the path, unless it is a link.
+// Returns the place for a path at which nothing exists, except perhaps a broken link.
 fn place_missing<R: Files>(files: &R, path: &str) -> Result<Place, AllocError> {
     if answer_of(fs::symlink_metadata(files, path))?.is_ok() {
         return Ok(Place::Special);
@@ -183,7 +209,7 @@ fn place_missing<R: Files>(files: &R, path: &str) -> Result<Place, AllocError> {
     }
 }
 
-// The file system refused to say or to open.
+// Returns the place for an error of the file system.
 fn place_refused(kind: ErrorKind) -> Place {
     match kind {
         ErrorKind::PermissionDenied | ErrorKind::ReadOnlyFilesystem => Place::NoRight,
@@ -191,7 +217,6 @@ fn place_refused(kind: ErrorKind) -> Place {
     }
 }
 
-// The folder of a path.
 fn folder_of(path: &str) -> &str {
     match path.rfind('/') {
         None => ".",

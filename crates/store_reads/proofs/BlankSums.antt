@@ -1,4 +1,5 @@
--- The sums of a product's blanks, by the rows of its lots and its batches in any order.
+-- Lemmas about the counters of a product's blanks, from the rows of its lots and batches in any
+-- order.
 use Rattle.std.proofs.Common.{◌≡◌, ◌+◌, ℕ, List, [], ◌∷◌, length, map, refl, sym, ap, ◌∙◌, IsPermutation}
 use Rattle.std.specs.Prelude.{sum_by}
 use Rattle.std.proofs.lemmas.List.{length-map}

@@ -1,4 +1,4 @@
--- What is read of contents by what is known of a record.
+-- Lemmas about reads of contents that use a cached record.
 use Rattle.std.proofs.Common.{◌≡◌, ℕ, List, Contains, Option, Some, None, Result, Ok, Err, IsTrue, map, sym, ap, subst, ◌∙◌, arith}
 use Rattle.std.specs.Prelude.{filter, find, option_map}
 use Rattle.std.specs.List.{flat_map}
@@ -67,9 +67,9 @@ module _ (c : Contents) (k : KnownRecord) (known : ∥ IsKnownIn (fixed (image c
   session_by_known id s s_is id_is place_is =
       session_read (stored_sessions c.facts) (stored_batches c.facts) (stored_records c.facts) id s s_is k.batch (batch_named s.batch id_is) k.rec (record_named s.batch s.place id_is place_is)
 
--- ---- the first record that waits
+-- ---- the first waiting record
 
--- of a batch of which a record is known
+-- in a batch with a cached record
 pub waiting_by_known : (old new : State) (known : Known) (k : KnownRecord) (b : List ℕ) → Knows old known → Contains (known_records known) k → k.batch ≡ b → Looks old new
     → ((c : Contents) → AreSound c → AreNamedApart (fixed (image c))) → ((f : Facts) → Rises record_at place_of (filter (is_waiting_of k.id) (stored_records f)))
     → ((f : Facts) → first_waiting f b ≡ waiting_in (stored_batches f) (stored_records f) b)
@@ -113,7 +113,7 @@ module _ (k : KnownRecord) (b r : List ℕ) (named : IsNamed b r k) (a q : ℕ) 
   of_names f = ap (λ n. segment_row_of f n k.rec a q) named.0 ∙ ap (λ n. segment_row_of f b n a q) named.1
 
   module _ (old : State) (known : Known) (knows : Knows old known) (apart : (c : Contents) → AreSound c → AreNamedApart (fixed (image c))) (answer : Option SegmentRow) where
-    -- as it is by what is known, so it is
+    -- a segment computed from the cached record is the segment in the contents
     row_given : HasCleanDisk old → IsTrue old.is_open → ((t : Tables) → IsImage t old.now → AreNamedApart (fixed t) → IsAllKnownIn t known → IsKnownIn (fixed t) k)
         → ((c : Contents) → AreSound c → IsImage (image c) old.now → IsKnownIn (fixed (image c)) k → answer ≡ segment_row_of c.facts k.batch k.rec a q) → Shows old (λ c. answer ≡ segment_row_of c.facts b r a q)
     row_given clean live shows as_read = (
@@ -123,14 +123,14 @@ module _ (k : KnownRecord) (b r : List ℕ) (named : IsNamed b r k) (a q : ℕ) 
           ∙ of_names c.facts,
     )
 
-    -- of a record that was known
+    -- a segment of a cached record
     pub segment_by_known : (new : State) → Looks old new → Contains (known_records known) k → IsTrue old.is_open → HasCleanDisk new
         → ((c : Contents) → AreSound c → (IsTrue old.is_open → IsImage (image c) old.now) → IsKnownIn (fixed (image c)) k → answer ≡ segment_row_of c.facts k.batch k.rec a q)
         → Shows old (λ c. answer ≡ segment_row_of c.facts b r a q)
     segment_by_known new looks there live clean as_read =
         row_given (omega (arith, clean, looks.survives.clean)) live (λ t is each all. All-contains (IsKnownIn (fixed t)) (known_records known) k (all.records each) there) (λ c sound is. as_read c sound (λ _. is))
 
-    -- of a record that was read before
+    -- a segment of a record that was read just before
     pub segment_by_read : (mid new : State) → Looks old mid → Looks mid new → (HasCleanDisk mid → ShowsRows old (λ t. AreNamedApart (fixed t) → IsAllKnownIn t known → IsKnownIn (fixed t) k))
         → (HasCleanDisk new → (c : Contents) → AreSound c → (IsTrue mid.is_open → IsImage (image c) mid.now) → IsKnownIn (fixed (image c)) k → answer ≡ segment_row_of c.facts k.batch k.rec a q)
         → HasCleanDisk new → Shows old (λ c. answer ≡ segment_row_of c.facts b r a q)

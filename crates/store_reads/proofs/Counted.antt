@@ -1,4 +1,5 @@
--- The counters of a batch stay so behind what changes none of them, and by its name.
+-- Lemmas: cached counters of a batch are valid after a write that doesn't change them, and can be
+-- found by the name of the batch.
 use Rattle.std.proofs.Common.{◌≡◌, ◌==◌, ◌∙◌, ◌⊎◌, ◌+◌, ℕ, true, not, List, All, Contains, Option, None, Some, filter, option_map, IfSome, refl, sym, subst, inl, inr, arith}
 use Rattle.std.specs.Prelude.{bytes_eq, find}
 use Rattle.std.proofs.lemmas.Bool.{cases_Bool}
@@ -26,7 +27,7 @@ use Rattle.store_reads.specs.Known.{AreCountersOf, IsAllKnownIn, IsKnownIn, IsSt
 use Rattle.store_reads.proofs.Found.{found_some}
 use Rattle.store_reads.proofs.KnownRows.{found_there, id_with_name}
 
--- ---- behind what is written
+-- ---- after a write
 
 abbrev HasThese : BatchCounters → StoredBatch → Type 0
 HasThese counters b = b.id ≡ counters.batch → totals_of b ≡ counters.totals
@@ -68,12 +69,12 @@ counters_after (writing.Closes b) entry t counters leaves has =
     All-map (HasThese counters) (closed_set b) t.batches (All-weaker (HasThese counters) (λ x. HasThese counters (closed_set b x)) (closed_has counters b) t.batches has)
 counters_after (writing.Releases client upto) entry t counters leaves has = has
 
--- those that are left
+-- the remaining counters
 pub left_after : (w : Writing) (entry : Entry) (t : Tables) (xs : List BatchCounters) → All (AreCountersIn t) xs → All (AreCountersIn (rows_written w entry t)) (filter (λ s. leaves_counters w s.batch) xs)
 left_after w entry t xs has = λ k d low.
     counters_after w entry t _ (filter_passes (λ s. leaves_counters w s.batch) xs k d low) (All-filter (λ s. leaves_counters w s.batch) (AreCountersIn t) xs has k d low)
 
--- ---- beside the rest
+-- ---- adding counters
 
 pub known_with_counters : (t : Tables) (old new : Known) (counters : BatchCounters) → IsAllKnownIn t old → AreCountersIn t counters → known_records new ≡ known_records old → standing_record new ≡ standing_record old
     → ((s : BatchCounters) → Contains (known_counters new) s → (s ≡ counters) ⊎ Contains (known_counters old) s) → IsAllKnownIn t new
@@ -88,7 +89,7 @@ known_with_counters t old new counters all has records standing each = record {
       (known_counters new) (All-contains_itself (known_counters new));
 }
 
--- ---- by the name of a batch of which a record is known
+-- ---- counters by the name of a batch with a cached record
 
 pub counters_of_known : (known : Known) (b : List ℕ) (k : KnownRecord) → Contains (known_records known) k → k.batch ≡ b
     → (o : Option BatchCounters) → IfSome o (λ counters. Contains (known_counters known) counters) → IfSome o (λ counters. counters.batch ≡ k.id) → IfSome o (AreCountersOf known b)

@@ -1,4 +1,4 @@
--- How many there are, by the last of ids that begin at 1 and go up by one.
+-- Lemmas: if ids start at 1 and increase by 1, the last id is the number of rows.
 use Rattle.std.proofs.Common.{◌≡◌, ℕ, zero, suc, ◌≤◌, ◌<◌, List, All, subst, arith}
 use Rattle.std.specs.List.{range_with_len}
 use Rattle.std.proofs.lemmas.List.Elements.{All-contains}

@@ -1,4 +1,4 @@
--- What is written leaves alone what of the rows no change touches, unless it adds a product or a
+-- Lemmas: a `Writing` doesn't modify the fixed part of the rows unless it adds a product or a
 -- batch.
 use Rattle.std.proofs.Common.{◌≡◌, ◌==◌, ◌&&◌, ℕ, true, List, map, inl, inr, refl, ap, ◌∙◌, ◌+◌}
 use Rattle.std.specs.Prelude.{bytes_eq}

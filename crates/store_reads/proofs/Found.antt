@@ -1,4 +1,4 @@
--- What the rows are that were found, by what is read of them.
+-- Lemmas about the rows that were found, from the parts of them that were read.
 use Rattle.std.proofs.Common.{◌≡◌, ℕ, List, Option, Some, None, refl, sym, ap, subst, ◌∙◌}
 use Rattle.std.specs.Prelude.{find, option_map}
 use Rattle.job_facts.proofs.Lists.{mapped, unmapped}
@@ -53,7 +53,7 @@ module _ (sessions : List StoredSession) (batches : List StoredBatch) (records :
           let y_at = subst (λ (t : SessionAt). find (is_record_at t.batch t.place) records ≡ Some y.0) x.2 y.1 in
           ap Some (same_row s n m x.0 b.0 y.0 x.2 b.2 y.2) ∙ sym (session_is x.0 b.0 y.0 x.1 b_at y_at)
 
--- what is known of a record gives its name
+-- a record that was read has the name of its row
 pub name_read : (o : Option StoredRecord) (r : RecordAt) → Some r ≡ option_map record_at o → Some r.name ≡ option_map (λ (y : StoredRecord). y.name) o
 name_read o r is = ap (option_map (λ (x : RecordAt). x.name)) is ∙ option_map-map (λ (x : RecordAt). x.name) record_at o
 

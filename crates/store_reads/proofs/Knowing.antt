@@ -1,5 +1,5 @@
--- What is known stays so behind a read, and behind what is written; and what is read of a record is
--- known from then on.
+-- Lemmas: the cache agrees with the database after a read and after a write, and also after a
+-- record that was read is added.
 use Rattle.std.proofs.Common.{◌≡◌, ◌⊎◌, ℕ, inl, inr, true, List, All, Contains, Some, IfSome, sym, subst, arith}
 use Rattle.std.proofs.Math.Logic.{∥∥₁_map}
 use Rattle.std.proofs.lemmas.List.Elements.{All-contains, All-contains_itself, All-weaker}
@@ -28,7 +28,7 @@ knows_after a b known looks knows clean live =
     let k = looks.kept clean in
     subst (λ db. HasKnown db known) (sym (k.now_is live)) (knows (omega (arith, clean, looks.survives.clean)) (k.was_open live))
 
--- what was read of a record, of the rows as they stood, is known beside the rest
+-- adds a record that was read from the rows as they were
 pub knows_more : (a b c : State) (old new : Known) (read : KnownRecord) → Looks a b → Looks b c
     → (HasCleanDisk b → ShowsRows a (λ t. AreNamedApart (fixed t) → IsAllKnownIn t old → IsKnownIn (fixed t) read)) → Knows a old
     → ((k : KnownRecord) → Contains (known_records new) k → (k ≡ read) ⊎ Contains (known_records old) k) → standing_record new ≡ standing_record old → known_counters new ≡ known_counters old → Knows c new
@@ -55,7 +55,7 @@ knows_more a b c old new read one two shows knows each same counters clean live 
       ));
     }
 
--- and how a record stands, in place of another
+-- replaces the cached state of a record
 pub knows_standing : (a b : State) (old new : Known) (id : ℕ) (card : RecordAt) → Looks a b → (HasCleanDisk b → ShowsRows a (λ t. AreNamedApart (fixed t) → IsStandingIn t (let s : StandingRecord = record { batch = id; card = card } in s)))
     → Knows a old → known_records new ≡ known_records old → standing_record new ≡ Some (let s : StandingRecord = record { batch = id; card = card } in s) → known_counters new ≡ known_counters old → Knows b new
 knows_standing a b old new id card looks shows knows same is counters clean live =

@@ -1,4 +1,4 @@
--- A record that is known in rows: in any order of them, and by look-ups among them.
+-- Lemmas about cached records in rows: the rows may be in any order, and look-ups find the records.
 use Rattle.std.proofs.Common.{◌≡◌, ◌==◌, ◌&&◌, ℕ, zero, suc, ◌<◌, Bool, true, false, inl, inr, List, [], ◌∷◌, All, Contains, length, get_or, map, Option, Some, None, IfSome, IsTrue, refl, sym, ap, subst, ◌∙◌, arith}
 use Rattle.std.specs.Prelude.{AllPairs, bytes_eq, filter, find, option_and_then, option_map}
 use Rattle.std.specs.List.Sorted.{IsPermutation}
@@ -41,7 +41,7 @@ use Rattle.store_reads.specs.declared.segments.BatchProduct.{BatchProduct}
 use Rattle.store_reads.specs.Segments.{product_in, product_under}
 use Rattle.store_reads.proofs.Found.{found_some}
 
--- ---- lists in another order
+-- ---- lists in a different order
 
 apart_moved : {X : Type 0} (alike : X → X → Bool) → ((x y : X) → alike x y ≡ alike y x) → (xs ys : List X) → IsPermutation xs ys → AllPairs (λ x y. alike x y ≡ false) xs → AllPairs (λ x y. alike x y ≡ false) ys
 apart_moved alike flips xs ys moved apart = λ i j d. apart_from_distinct alike ys i j d (IsDistinct-IsPermutation alike flips xs ys moved (IsDistinct-from_apart alike xs apart))
@@ -92,7 +92,7 @@ module _ (t u : Tables) (same : HaveSameRows t u) where
   counted_moved : (counters : BatchCounters) → AreCountersIn t counters → AreCountersIn u counters
   counted_moved counters has = All-permutation (λ (b : StoredBatch). b.id ≡ counters.batch → totals_of b ≡ counters.totals) t.batches u.batches same.batches has
 
--- all that is known is so of whatever rows the database has
+-- all cached entries agree with any rows that the database has
 pub all_known_in : (s : State) (known : Known) → Knows s known → HasCleanDisk s → IsTrue s.is_open → (t : Tables) → IsImage t s.now → ∥ IsAllKnownIn t known ∥₁
 all_known_in s known knows clean live t is =
     ∥∥₁_map (knows clean live).rows (λ it.
@@ -104,13 +104,13 @@ all_known_in s known knows clean live t is =
       counted = All-weaker (AreCountersIn it.0) (AreCountersIn t) (counted_moved it.0 t there) (known_counters known) it.2.counted;
     })
 
--- so is each record
+-- each cached record agrees with them
 pub known_in : (s : State) (known : Known) → Knows s known → HasCleanDisk s → IsTrue s.is_open → (k : KnownRecord) → Contains (known_records known) k
     → (t : Tables) → IsImage t s.now → AreNamedApart (fixed t) → ∥ IsKnownIn (fixed t) k ∥₁
 known_in s known knows clean live k there t is apart =
     ∥∥₁_map (all_known_in s known knows clean live t is) (λ it. All-contains (IsKnownIn (fixed t)) (known_records known) k (it.records apart) there)
 
--- the names of the batches and records of sound contents are apart
+-- the names of batches and of records of a batch are unique in sound contents
 pub names_apart : (c : Contents) → AreNamedOnce (map (λ (p : Product). p.code) c.facts.products) → ((n : List ℕ) → PassesOnce (is_batch_named n) (stored_batches c.facts))
     → ((id : ℕ) (n : List ℕ) → PassesOnce (is_record_named id n) (stored_records c.facts)) → AreNamedApart (fixed (image c))
 names_apart c products batches records = record {
@@ -119,7 +119,7 @@ names_apart c products batches records = record {
   records = λ id n. AllPairs-map (λ v w. is_named_in id n v ≡ true → is_named_in id n w ≡ false) fixed_record (stored_records c.facts) (records id n);
 }
 
--- so no two rows have one name
+-- no two rows therefore have the same name
 module _ (t : Tables) (apart : AreNamedApart (fixed t)) where
   pub batches_once : (n : List ℕ) → PassesOnce (is_batch_named n) t.batches
   batches_once n = AllPairs-from_map (λ v w. is_named n v ≡ true → is_named n w ≡ false) fixed_batch t.batches (apart.batches n)
@@ -129,7 +129,7 @@ module _ (t : Tables) (apart : AreNamedApart (fixed t)) where
 
 -- ---- look-ups
 
--- what is there is found, where nothing else passes
+-- an element that satisfies `p` is found if no other element does
 found_once : {X : Type 0} (p : X → Bool) (xs : List X) (x : X) → PassesOnce p xs → Contains xs x → p x ≡ true → find p xs ≡ Some x
 found_once {X} p xs x once there hit = at xs there.0 there.1 there.2 once
   where
@@ -141,7 +141,7 @@ found_once {X} p xs x once there hit = at xs there.0 there.1 there.2 once
       | inr miss ↦ cond-false (p y) (Some y) (find p ys) miss ∙ at ys k (omega (arith, within)) is (λ i j d before later. once (suc i) (suc j) d (omega (arith, before)) (omega (arith, later)))
     ]
 
--- by what of it no change touches
+-- an element is found by a test on its fixed part
 found_by_part : {X Y : Type 0} (part : X → Y) (p : Y → Bool) (xs : List X) (y : Y) → Contains (map part xs) y → PassesOnce (λ x. p (part x)) xs → p y ≡ true
     → (x : X) × (find (λ x. p (part x)) xs ≡ Some x) × (y ≡ part x)
 found_by_part part p xs y there once hit =
@@ -190,7 +190,7 @@ module _ (t : Tables) (k : KnownRecord) (it : IsKnownIn (fixed t) k) where
         (and_from (k.id == k.id) (bytes_eq k.rec k.rec) (same_number k.id) (bytes_eq-same k.rec)) in
         (record_at r.0, sym (ap (option_map record_at) r.1), sym (ap (λ (e : FixedRecord). e.place) r.2))
 
--- ---- what was read
+-- ---- records that were read
 
 in_map : {X Y : Type 0} (part : X → Y) (xs : List X) (x : X) (y : Y) → y ≡ part x → Contains xs x → Contains (map part xs) y
 in_map part xs x y is there =
@@ -209,7 +209,7 @@ same_batch_part i j m n p q one two three = rw (one, two, three) refl
 same_record_part : (i j p q : ℕ) (m n : List ℕ) → i ≡ j → p ≡ q → m ≡ n → (let x : FixedRecord = record { batch = i; place = p; name = m } in x) ≡ (let y : FixedRecord = record { batch = j; place = q; name = n } in y)
 same_record_part i j p q m n one two three = rw (one, two, three) refl
 
--- the segments of one record and place are those of another that has the same
+-- replaces the batch id, the position and the segments by equal ones
 heads_moved : (x : Fixed) (i j p q : ℕ) (hs ks : List (List SegmentHead)) → AreHeadsAt x i p hs → j ≡ i → q ≡ p → ks ≡ hs → AreHeadsAt x j q ks
 heads_moved x i j p q hs ks heads id_is place_is same =
     subst (λ n. AreHeadsAt x n q ks) (sym id_is) (subst (λ n. AreHeadsAt x i n ks) (sym place_is) (subst (AreHeadsAt x i p) (sym same) heads))
@@ -234,9 +234,9 @@ read_known t k e e_is x x_is heads id_is product_is place_is =
       heads = heads_moved (fixed t) e.id k.id x.place k.place (known_heads k) (known_heads k) heads id_is place_is refl;
     }
 
--- ---- how a record stands
+-- ---- states of records
 
--- what is found of the record of its name
+-- the cached state is the one that a look-up by name finds
 pub standing_told : (t : Tables) (known : Known) → AreNamedApart (fixed t) → IsAllKnownIn t known → (id : ℕ) (n : List ℕ) (card : RecordAt) → IsStandingOf known id n card
     → Some card ≡ option_map record_at (find (is_record_named id n) t.records)
 standing_told t known apart all id n card is =
@@ -246,14 +246,14 @@ standing_told t known apart all id n card is =
     (records_once t apart id card.name) (and_from (id == id) (bytes_eq card.name card.name) (same_number id) (bytes_eq-same card.name)) in
     ap (λ (x : StandingRecord). Some x.card) r.2 ∙ sym (ap (option_map record_at) r.1))
 
--- no change touches its place
+-- the fixed columns of the record
 stands_there : (t : Tables) (id : ℕ) (card : RecordAt) → IsStandingIn t (let s : StandingRecord = record { batch = id; card = card } in s)
     → Contains (map fixed_record t.records) (let r : FixedRecord = record { batch = id; place = card.place; name = card.name } in r)
 stands_there t id card there =
     let part : StandingRecord → FixedRecord = λ s. record { batch = s.batch; place = s.card.place; name = s.card.name } in
     subst (λ xs. Contains xs (let r : FixedRecord = record { batch = id; place = card.place; name = card.name } in r)) (map_map part standing_of t.records) (in_map part (map standing_of t.records) _ _ refl there)
 
--- a record beside a known one of its batch, by how it stands
+-- a record in the batch of a cached record, from its cached state
 pub read_beside : (t : Tables) (known : Known) → AreNamedApart (fixed t) → IsAllKnownIn t known → (o k : KnownRecord) → Contains (known_records known) o → (n : List ℕ) (card : RecordAt) → IsStandingOf known o.id n card
     → (heads : List (List SegmentHead)) → AreHeadsAt (fixed t) o.id card.place heads → known_heads k ≡ heads
     → k.id ≡ o.id → k.batch ≡ o.batch → k.product ≡ o.product → k.place ≡ card.place → k.rec ≡ n → IsKnownIn (fixed t) k
@@ -267,7 +267,7 @@ read_beside t known apart all o k there n card is heads are same id_is batch_is 
       heads = heads_moved (fixed t) o.id k.id card.place k.place heads (known_heads k) are id_is place_is same;
     }
 
--- ---- a record of which it was read how it stands
+-- ---- a record whose state was read
 
 module _ (id : ℕ) (all : List StoredRecord) where
   abbrev IsThere : RecordAt → Type 0
@@ -285,7 +285,7 @@ module _ (id : ℕ) (all : List StoredRecord) where
       All-cons IsThere (record_at x) (map record_at xs) (stands_of x both.0 (All-head (Contains all) x xs there))
       (each_there xs (All-tail (λ y. is_waiting_of id y ≡ true) x xs waits) (All-tail (Contains all) x xs there))
 
--- the first that waits
+-- the first waiting record
 pub waiting_stands : (t : Tables) (id : ℕ) (card : RecordAt) → IsLeastBy place_of (map record_at (filter (is_waiting_of id) t.records)) (Some card)
     → IsStandingIn t (let s : StandingRecord = record { batch = id; card = card } in s)
 waiting_stands t id card least =
@@ -293,7 +293,7 @@ waiting_stands t id card least =
     (each_there id t.records (filter (is_waiting_of id) t.records) (filter_passes (is_waiting_of id) t.records) (All-filter (is_waiting_of id) (Contains t.records) t.records (All-contains_itself t.records)))
     least.0
 
--- that of a name
+-- the record with a name
 pub named_stands : (t : Tables) (id : ℕ) (n : List ℕ) (card : RecordAt) → Some card ≡ option_map record_at (find (is_record_named id n) t.records)
     → IsStandingIn t (let s : StandingRecord = record { batch = id; card = card } in s)
 named_stands t id n card card_is =

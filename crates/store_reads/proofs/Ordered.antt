@@ -1,5 +1,5 @@
--- Rows by rising numbers: what is read of them in the order of their numbers, and of the first of
--- them.
+-- Lemmas about rows with ascending numbers: reads in the order of numbers, and reads of the first
+-- row.
 use Rattle.std.proofs.Common.{◌≡◌, ℕ, zero, suc, ◌<◌, ◌≤◌, Bool, cond, true, false, List, [], ◌∷◌, map, length, get_or, Option, Some, None, refl, sym, ap, arith}
 use Rattle.std.specs.Prelude.{AllPairs, filter, find, option_map}
 use Rattle.std.proofs.lemmas.List.Elements.{at_from_Contains}
@@ -12,7 +12,7 @@ abbrev pub first_of : {X : Type 0} → List X → Option X
 first_of [] = None
 first_of (x ∷ xs) = Some x
 
--- what is found first is the first that passes
+-- `find` returns the first element that satisfies `p`
 pub first_passing : {X : Type 0} (p : X → Bool) (xs : List X) → first_of (filter p xs) ≡ find p xs
 first_passing p [] = refl
 first_passing p (x ∷ xs) = elim (p x) as (λ b. first_of (cond b (x ∷ filter p xs) (filter p xs)) ≡ cond b (Some x) (find p xs)) [
@@ -24,13 +24,13 @@ module _ {X Y : Type 0} (view : X → Y) (rank : Y → ℕ) where
   abbrev pub Rises : List X → Type 0
   Rises xs = AllPairs (λ x y. rank (view x) < rank (view y)) xs
 
-  -- what is given in the order of the numbers is given of each row in turn
+  -- a read sorted by number returns the rows in their order
   pub read_in_order : (xs : List X) → Rises xs → (ys : List Y) → AreSorted rank (map view xs) ys → ys ≡ map view xs
   read_in_order xs rising ys sorted =
       in_order rank ys (map view xs) (IsPermutation-sym (map view xs) ys sorted.0) (λ i j d before within. sorted.1 i j d (omega (arith, before)) within)
       (AllPairs-map (λ x y. rank x < rank y) view xs rising)
 
-  -- what has the least number is given of the first
+  -- the row with the lowest number is the first one
   pub first_read : (xs : List X) → Rises xs → (found : Option Y) → IsLeastBy rank (map view xs) found → found ≡ option_map view (first_of xs)
   first_read [] rising None none = refl
   first_read [] rising (Some y) least = absurd (omega (arith, least.0.1))

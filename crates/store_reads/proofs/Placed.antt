@@ -1,4 +1,4 @@
--- What is given before a change of what it touches.
+-- Lemmas about the earlier values of the rows that a change updates.
 use Rattle.std.proofs.Common.{◌≡◌, ℕ, List, Some, sym, subst}
 use Rattle.std.specs.Prelude.{find, option_map}
 use Rattle.job_facts.specs.declared.facts.Lot.{Lot}

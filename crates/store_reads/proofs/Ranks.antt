@@ -1,4 +1,4 @@
--- The first grouping of each rank, of groupings in turn, and the ranks in turn.
+-- Lemmas about the loops that find the first grouping of each rank and then collect the ranks.
 use Rattle.std.proofs.Common.{◌≡◌, ◌≢◌, ◌==◌, ◌+◌, ◌-◌, ◌<◌, ◌≤◌, ℕ, zero, suc, Bool, cond, true, false, inl, inr, List, [], ◌∷◌, ◌++◌, get_or, length, set, take, Option, Some, None, refl, sym, ap, ◌∙◌, arith}
 use Rattle.std.specs.Prelude.{find, is_some, option_map}
 use Rattle.std.specs.Option.{option_or}
@@ -20,7 +20,7 @@ pub not_some : (o : Option SegmentHead) → is_some o ≡ false → o ≡ None
 not_some None none = refl
 not_some (Some h) none = absurd (cc none)
 
--- ---- one grouping more
+-- ---- one more grouping
 
 module _ (gs : List GroupingAt) (i : ℕ) (d : GroupingAt) (within : i < length gs) where
   abbrev one : GroupingAt
@@ -38,12 +38,12 @@ module _ (gs : List GroupingAt) (i : ℕ) (d : GroupingAt) (within : i < length 
       split None false = refl
 
   module _ (firsts : List (Option SegmentHead)) (k : ℕ) (is : get_or firsts k None ≡ head_of_rank (take i gs) k) where
-    -- of another rank
+    -- a grouping with another rank
     other_rank : (one.rank == k) ≡ false → get_or firsts k None ≡ head_of_rank (take (i + 1) gs) k
     other_rank miss =
         is ∙ sym (first_more k ∙ ap (λ b. option_or (head_of_rank (take i gs) k) (cond b (Some (head_with k one)) None)) miss ∙ or_none (head_of_rank (take i gs) k))
 
-    -- the first of its rank
+    -- the first grouping with its rank
     pub first_put : one.rank < length firsts → get_or firsts one.rank None ≡ None → get_or (set firsts one.rank (Some (head_with one.rank one))) k None ≡ head_of_rank (take (i + 1) gs) k
     first_put room none = elim (cases_Bool (one.rank == k)) [
       | inl hit ↦
@@ -58,7 +58,7 @@ module _ (gs : List GroupingAt) (i : ℕ) (d : GroupingAt) (within : i < length 
           get_or-set_other firsts one.rank k (Some (head_with one.rank one)) None other ∙ other_rank miss
     ]
 
-    -- not the first of its rank
+    -- not the first grouping with its rank
     pub first_kept : is_some (get_or firsts one.rank None) ≡ true → get_or firsts k None ≡ head_of_rank (take (i + 1) gs) k
     first_kept some = elim (cases_Bool (one.rank == k)) [
       | inl hit ↦
@@ -72,7 +72,7 @@ module _ (gs : List GroupingAt) (i : ℕ) (d : GroupingAt) (within : i < length 
         first_stays None there more = absurd (cc there)
         first_stays (Some h) there more = refl
 
--- ---- one rank more
+-- ---- one more rank
 
 range_more : (a n : ℕ) → range_with_len a (n + 1) ≡ range_with_len a n ++ (a + n) ∷ []
 range_more a zero = let e : a + 0 ≡ a = omega arith in rw e refl

@@ -1,4 +1,4 @@
--- From what reads show of rows to what they give of contents, once for all reads.
+-- Lemmas for all reads: from what a read shows of rows to what it shows of contents.
 use Rattle.std.proofs.Common.{Result, Ok, Err, IfOk, IsTrue, sym, subst, ◌∙◌, arith}
 use Rattle.sqlite.specs.State.{HasCleanDisk, State}
 use Rattle.sqlite.specs.declared.error.Error.{Error}
@@ -11,15 +11,15 @@ use Rattle.sql_rows.specs.Image.{IsImage}
 use Rattle.row_reads.specs.Reads.{Looks}
 use Rattle.store_reads.specs.ReadsContents.{ReadsContents}
 
--- an open connection shows this of whatever rows it has
+-- The connection was open, and `Q` is true for any rows that its database has.
 abbrev pub ShowsRows : State → (Tables → Type 0) → Type 0
 ShowsRows old Q = IsTrue old.is_open × ((t : Tables) → IsImage t old.now → Q t)
 
--- and this of whatever sound contents it has the rows
+-- The connection was open, and `P` is true for any sound contents that its database represents.
 abbrev pub Shows : State → (Contents → Type 0) → Type 0
 Shows old P = IsTrue old.is_open × ((c : Contents) → AreSound c → IsImage (image c) old.now → P c)
 
--- ---- what is left
+-- ---- after several reads
 
 kept_then : (a b c : State) → IsKept a b → IsKept b c → IsKept a c
 kept_then a b c one two = record {
@@ -35,13 +35,13 @@ looks_then a b c one two = record {
   survives = survives_then a b c (λ _. ⊥) (λ _. ⊥) (λ _. ⊥) (λ _ db none. none) (λ _ db none. none) one.survives two.survives;
 }
 
--- ---- what is given
+-- ---- results
 
--- by what is shown of rows, and a law of the rows of contents
+-- from rows to contents
 pub shown : (a b : State) (Q : Tables → Type 0) (P : Contents → Type 0) → (HasCleanDisk b → ShowsRows a Q) → ((c : Contents) → AreSound c → Q (image c) → P c) → HasCleanDisk b → Shows a P
 shown a b Q P rows law clean = let s = rows clean in (s.0, λ c sound is. law c sound (s.1 (image c) is))
 
--- what the second read shows is so of what the first found
+-- two reads show a fact together
 pub shown_then : (a b c : State) (P Q R : Contents → Type 0) → Looks a b → Looks b c → (HasCleanDisk b → Shows a P) → (HasCleanDisk c → Shows b Q)
     → ((d : Contents) → AreSound d → P d → Q d → R d) → HasCleanDisk c → Shows a R
 shown_then a b c P Q R one two first second law clean =
@@ -50,13 +50,13 @@ shown_then a b c P Q R one two first second law clean =
     let q = second clean in
     (p.0, λ d sound is. law d sound (p.1 d sound is) (q.1 d sound (subst (IsImage (image d)) (sym ((one.kept early).now_is q.0)) is)))
 
--- both by what is shown of rows
+-- two reads of rows show a fact about the contents together
 pub both_shown : (a b c : State) (Q T : Tables → Type 0) (P : Contents → Type 0) → Looks a b → Looks b c → (HasCleanDisk b → ShowsRows a Q) → (HasCleanDisk c → ShowsRows b T)
     → ((d : Contents) → AreSound d → Q (image d) → T (image d) → P d) → HasCleanDisk c → Shows a P
 both_shown a b c Q T P one two first second =
     shown_then a b c (λ d. Q (image d)) (λ d. T (image d)) P one two (shown a b Q (λ d. Q (image d)) first (λ d sound is. is)) (shown b c T (λ d. T (image d)) second (λ d sound is. is))
 
--- and what a third shows
+-- three reads show a fact together
 shown_third : (a b c d : State) (P Q R T : Contents → Type 0) → Looks a b → Looks b c → Looks c d → (HasCleanDisk b → Shows a P) → (HasCleanDisk c → Shows b Q) → (HasCleanDisk d → Shows c R)
     → ((x : Contents) → AreSound x → P x → Q x → R x → T x) → HasCleanDisk d → Shows a T
 shown_third a b c d P Q R T one two three first second third law =
@@ -69,24 +69,24 @@ three_shown a b c d Q T U P one two three first second third =
     shown_third a b c d (λ x. Q (image x)) (λ x. T (image x)) (λ x. U (image x)) P one two three
     (shown a b Q (λ x. Q (image x)) first (λ x sound is. is)) (shown b c T (λ x. T (image x)) second (λ x sound is. is)) (shown c d U (λ x. U (image x)) third (λ x sound is. is))
 
--- a read that gives all that is asked
+-- a single read that returns the result
 pub reads : {T : Type 0} (a b : State) (r : Result T Error) (Q : Tables → T → Type 0) (P : Contents → T → Type 0) → (HasCleanDisk b → IfOk r (λ x. ShowsRows a (λ t. Q t x)))
     → ((c : Contents) → AreSound c → (x : T) → Q (image c) x → P c x) → ReadsContents a b r P
 reads a b (Ok x) Q P rows law = shown a b (λ t. Q t x) (λ c. P c x) rows (λ c sound. law c sound x)
 reads a b (Err e) Q P rows law = λ clean. tt
 
--- a read of what the first found, whose answer is handed on
+-- a read of what the first read found, whose result is returned
 pub reads_then : {T : Type 0} (a b c : State) (r : Result T Error) (P : Contents → Type 0) (Q R : Contents → T → Type 0) → Looks a b → Looks b c → (HasCleanDisk b → Shows a P) → ReadsContents b c r Q
     → ((d : Contents) → AreSound d → (x : T) → P d → Q d x → R d x) → ReadsContents a c r R
 reads_then a b c (Ok x) P Q R one two first second law = shown_then a b c P (λ d. Q d x) (λ d. R d x) one two first second (λ d sound. law d sound x)
 reads_then a b c (Err e) P Q R one two first second law = λ clean. tt
 
--- and so what follows of it
+-- a consequence of a result
 pub if_ok : {T : Type 0} (r : Result T Error) (P Q : T → Type 0) → ((x : T) → P x → Q x) → IfOk r P → IfOk r Q
 if_ok (Ok x) P Q then as_read = then x as_read
 if_ok (Err e) P Q then as_read = tt
 
--- a read behind another that gave nothing
+-- a read after one whose result isn't used
 pub reads_later : {T : Type 0} (a b c : State) (r : Result T Error) (P : Contents → T → Type 0) → Looks a b → Looks b c → ReadsContents b c r P → ReadsContents a c r P
 reads_later a b c (Err e) P one two as_read = λ clean. tt
 reads_later a b c (Ok x) P one two as_read = λ clean.
@@ -95,7 +95,7 @@ reads_later a b c (Ok x) P one two as_read = λ clean.
     let p = as_read clean in
     (k.was_open p.0, λ d sound is. p.1 d sound (subst (IsImage (image d)) (sym (k.now_is p.0)) is))
 
--- the same of rows alone
+-- two reads show a fact about the rows together
 pub rows_then : (a b c : State) (P Q R : Tables → Type 0) → Looks a b → Looks b c → (HasCleanDisk b → ShowsRows a P) → (HasCleanDisk c → ShowsRows b Q) → ((t : Tables) → P t → Q t → R t)
     → HasCleanDisk c → ShowsRows a R
 rows_then a b c P Q R one two first second law clean =
@@ -110,7 +110,7 @@ rows_as a b P Q shows law clean = let s = shows clean in (s.0, λ t is. law t (s
 pub rows_both : (a b c : State) (P Q : Tables → Type 0) → Looks a b → Looks b c → (HasCleanDisk b → ShowsRows a P) → (HasCleanDisk c → ShowsRows b Q) → HasCleanDisk c → ShowsRows a (λ t. P t × Q t)
 rows_both a b c P Q one two first second = rows_then a b c P Q (λ t. P t × Q t) one two first second (λ t p q. (p, q))
 
--- a read of rows behind another that gave nothing
+-- a read of rows after one whose result isn't used
 pub rows_later : {T : Type 0} (a b c : State) (r : Result T Error) (P Q : Tables → T → Type 0) → Looks a b → Looks b c → (HasCleanDisk c → IfOk r (λ x. ShowsRows b (λ t. P t x)))
     → ((t : Tables) (x : T) → P t x → Q t x) → HasCleanDisk c → IfOk r (λ x. ShowsRows a (λ t. Q t x))
 rows_later a b c (Err e) P Q one two as_read law = λ clean. tt

@@ -1,4 +1,4 @@
--- What is read of an answer that is made of what reads show.
+-- Lemmas about a result that is computed from the results of reads.
 use Rattle.std.proofs.Common.{Result, Ok, Err, IfOk}
 use Rattle.sqlite.specs.State.{HasCleanDisk, State}
 use Rattle.sqlite.specs.declared.error.Error.{Error}
@@ -7,7 +7,7 @@ use Rattle.row_reads.specs.Reads.{Looks}
 use Rattle.store_reads.specs.ReadsContents.{ReadsContents}
 use Rattle.store_reads.proofs.ReadContents.{Shows, shown_then}
 
--- what is made of the answers of reads
+-- a result computed from the results of reads
 pub reads_shown : {T : Type 0} (a b : State) (r : Result T Error) (Q : Contents → Type 0) (W : T → Type 0) (P : Contents → T → Type 0) → (HasCleanDisk b → Shows a Q) → IfOk r W
     → ((c : Contents) → AreSound c → Q c → (x : T) → W x → P c x) → ReadsContents a b r P
 reads_shown a b (Ok x) Q W P shows made law = λ clean. let s = shows clean in (s.0, λ c sound is. law c sound (s.1 c sound is) x made)
@@ -17,7 +17,7 @@ pub ok_both : {T : Type 0} (r : Result T Error) (V W : T → Type 0) → IfOk r 
 ok_both (Ok x) V W v w = (v, w)
 ok_both (Err e) V W v w = tt
 
--- what a read gives after another showed something
+-- the result of a read after another read
 pub reads_shown_then : {T : Type 0} (a b c : State) (r : Result T Error) (Q : Contents → Type 0) (R P : Contents → T → Type 0) → Looks a b → Looks b c → (HasCleanDisk b → Shows a Q) → ReadsContents b c r R
     → ((d : Contents) → AreSound d → Q d → (x : T) → R d x → P d x) → ReadsContents a c r P
 reads_shown_then a b c (Ok x) Q R P one two shows reads law = shown_then a b c Q (λ d. R d x) (λ d. P d x) one two shows reads (λ d sound q r. law d sound q x r)

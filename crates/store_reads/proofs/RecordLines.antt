@@ -1,4 +1,4 @@
--- The lines of a batch's records by what is read of them and of its good cards.
+-- Lemmas about the lines of a batch's records, from the rows of the records and of the good cards.
 use Rattle.std.proofs.Common.{◌≡◌, ℕ, ◌+◌, ◌<◌, ◌≤◌, ◌==◌, Bool, cond, true, false, List, [], ◌∷◌, ◌++◌, length, take, get_or, map, Option, Some, None, inl, inr, refl, sym, ap, subst, ◌∙◌, arith, IsPermutation}
 use Rattle.std.specs.Prelude.{AllPairs, IsTrue, count_by, filter, find, is_some, option_map, unwrap_or}
 use Rattle.std.specs.List.{enumerate_from, flat_map}
@@ -27,7 +27,7 @@ use Rattle.store_reads.specs.Lines.{blank_of, is_card_at, line_for, lines_with}
 use Rattle.store_reads.proofs.Found.{found_some}
 use Rattle.store_reads.proofs.Ordered.{read_in_order}
 
--- ---- what is read of rows
+-- ---- rows
 
 module _ (sessions : List StoredSession) (good : List GoodCard) (moved : IsPermutation (map good_at sessions) good) (once : (k : ℕ) → count_by (is_card_at k) good ≤ 1) where
   blank_same : (k : ℕ) → blank_of good k ≡ option_map (λ (s : StoredSession). s.serial) (find (λ (s : StoredSession). s.place == k) sessions)
@@ -44,7 +44,7 @@ module _ (sessions : List StoredSession) (good : List GoodCard) (moved : IsPermu
       → map (line_for good) all ≡ map (line_of sessions) xs
   lines_are xs rising all sorted = ap (map (line_for good)) (read_in_order record_at place_of xs rising all sorted) ∙ map_map (line_for good) record_at xs ∙ lines_same xs
 
--- ---- a batch that is not there
+-- ---- a batch that doesn't exist
 
 -- no batch has the id 0
 module _ (f : Facts) where
@@ -74,7 +74,7 @@ module _ (f : Facts) where
       let row = found_some (λ (row : StoredBatch). row.id) (find (is_batch_named b) (stored_batches f)) id is in
       ap (lines_with f) row.2 ∙ sym (ap (lines_at (stored_records f) (stored_sessions f)) row.1)
 
--- ---- good cards by their places
+-- ---- good cards by position
 
 abbrev serial : GoodCard → ℕ
 serial g = g.serial
@@ -92,7 +92,7 @@ counted_none p (x ∷ xs) none =
       | inr miss ↦ omega (arith, sum, cond-false {A = ℕ} (p x) 1 0 miss, counted_none p xs (sym (cond-false (p x) (Some x) (find p xs) miss) ∙ none))
     ]
 
--- one more card, at a place where there was none
+-- adds a card at a position that has no card yet
 module _ (xs : List GoodCard) (g : GoodCard) (free : blank_of xs g.place ≡ None) where
   none_there : (k : ℕ) → (g.place == k) ≡ true → find (is_card_at k) xs ≡ None
   none_there k hit =
@@ -118,7 +118,7 @@ module _ (xs : List GoodCard) (g : GoodCard) (free : blank_of xs g.place ≡ Non
         | inr miss ↦ omega (arith, sum, cond-false {A = ℕ} (g.place == k) 1 0 miss, once)
       ]
 
--- what is kept of one more card, where nothing was kept at its place
+-- the map after adding a card at a position that has no card yet
 module _ (good : List GoodCard) (i : ℕ) (d : GoodCard) (within : i < length good) (old new : ℕ → Option ℕ) (value : (k : ℕ) → old k ≡ blank_of (take i good) k)
     (free : old (get_or good i d).place ≡ None) where
   free_so_far : blank_of (take i good) (get_or good i d).place ≡ None
@@ -133,7 +133,7 @@ module _ (good : List GoodCard) (i : ℕ) (d : GoodCard) (within : i < length go
   once_so_far once k =
       subst (λ xs. count_by (is_card_at k) xs ≤ 1) (sym (take_more good i d within)) (once_more (take i good) (get_or good i d) free_so_far k (once k))
 
--- where something was kept at its place, the place has two cards
+-- if the position already has a card, it has two
 counted_some : (p : GoodCard → Bool) (xs : List GoodCard) → IsTrue (is_some (find p xs)) → 1 ≤ count_by p xs
 counted_some p [] some = absurd cc
 counted_some p (x ∷ xs) some =

@@ -1,4 +1,5 @@
--- A segment of a plan, by the marks of all groupings of its record and the bytes of its own.
+-- Lemmas about a segment of a plan, from the columns of all groupings of its record except their
+-- bytes, and from the bytes of its own groupings.
 use Rattle.std.proofs.Common.{◌≡◌, ◌==◌, ◌&&◌, ◌+◌, ℕ, Bool, cond, true, false, inl, inr, List, [], ◌∷◌, ◌++◌, All, length, map, Option, Some, None, refl, sym, ap, subst, ◌∙◌}
 use Rattle.std.specs.Prelude.{bytes_eq, filter, find, option_and_then, option_map, slice_get}
 use Rattle.std.specs.List.{cons_option, filter_map, flat_map}
@@ -29,7 +30,7 @@ use Rattle.store_reads.proofs.Ordered.{first_of, first_passing}
 
 -- ---- lists
 
--- what is found among what has P has it
+-- if all elements have the property `P`, an element that is found has it
 found_has : {X : Type 0} (P : X → Type 0) (p : X → Bool) (xs : List X) (x : X) → All P xs → find p xs ≡ Some x → P x
 found_has P p [] x each is = absurd (none-some x is)
 found_has P p (y ∷ xs) x each is = elim (cases_Bool (p y)) [
@@ -52,7 +53,7 @@ bytes_of = flat_map (λ (g : StoredGrouping). g.coded)
 abbrev has_rank : ℕ → StoredGrouping → Bool
 has_rank k g = g.rank == k
 
--- these groupings joined, with the marks of one
+-- the joined groupings `gs`, with the encryption and tolerance of the grouping `g`
 abbrev segment_with : List StoredGrouping → StoredGrouping → Segment
 segment_with gs g = record { enc = g.enc; tol = g.tol; bytes = bytes_of gs }
 
@@ -67,13 +68,13 @@ module _ (r : List ℕ) (own : List StoredGrouping) where
       ap segment_of (filter-map (λ (row : Row). row.rank == k) (row_of r) own) ∙ from_rows (filter (has_rank k) own)
       ∙ ap (λ o. option_to_list (option_map (segment_with (filter (has_rank k) own)) o)) (first_passing (has_rank k) own)
 
--- ---- a segment by its head
+-- ---- a segment from its head
 
--- a grouping of the head's application and rank
+-- `g` has the application and the rank of the head `h`.
 abbrev pub is_under : SegmentHead → StoredGrouping → Bool
 is_under h g = bytes_eq g.aid h.aid && (g.rank == h.rank)
 
--- the segment with this head, of a record with these groupings
+-- the segment with the head `p`, of a record with the groupings `all`
 abbrev pub with_bytes : List StoredGrouping → PlacedHead → PlacedSegment
 with_bytes all p =
     record { aid = p.head.aid; segment = record { enc = p.head.enc; tol = p.head.tol; bytes = bytes_of (filter (is_under p.head) all) }; last = p.last }
@@ -149,7 +150,7 @@ module _ (r : List ℕ) (all : List StoredGrouping) (key : List ℕ) where
       ∙ sym (slice_get-map (placed last) (segments_of rows) q) ∙ ap (λ xs. slice_get xs q) (segments_read last) ∙ slice_get-map (read last) hs q
       ∙ sym (option_map-map (with_bytes all) (λ (h : SegmentHead). let p : PlacedHead = record { head = h; last = last } in p) (slice_get hs q))
 
--- what is made of the group of a key
+-- a value computed from the group of a key
 made_at : {K X Y : Type 0} (f : X → Y) (g : K → X) (ks : List K) (a : ℕ) → slice_get (map f (map g ks)) a ≡ option_map f (option_map g (slice_get ks a))
 made_at f g ks a = slice_get-map f (map g ks) a ∙ ap (option_map f) (slice_get-map g ks a)
 
@@ -177,7 +178,8 @@ module _ (r : List ℕ) (all : List StoredGrouping) (p : Product) (a q : ℕ) wh
       ∙ application_read r all key q
       ∙ sym (ap (λ gs. option_map (with_bytes all) (placed_head (heads_in gs) q)) (filter-map (λ (g : GroupingAt). bytes_eq g.aid key) grouping_at all))
 
-  -- a segment is what the marks say, with the bytes of the groupings of its application and rank
+  -- a segment has the encryption and tolerance of its head, and the bytes of the groupings with its
+  -- application and rank
   pub segment_by_head : segment_at (plan_of p (map (row_of r) all)) a q ≡ option_map (with_bytes all) (head_at (heads_of (map grouping_at all)) a q)
   unfolding applications_of grouped
   segment_by_head =

@@ -1,4 +1,4 @@
--- A record's plan by what is read of its batch and of its rows.
+-- Lemmas about the plan of a record, from the rows of its batch and its groupings.
 use Rattle.std.proofs.Common.{◌≡◌, ℕ, ◌&&◌, ◌==◌, ◌<◌, Bool, true, false, List, [], map, Option, Some, None, refl, sym, ap, subst, ◌∙◌, arith}
 use Rattle.std.specs.Prelude.{bytes_eq, filter, find, option_and_then, option_map}
 use Rattle.std.specs.List.{flat_map}
@@ -51,7 +51,7 @@ both_left : (x y : Bool) → (x && y) ≡ true → x ≡ true
 both_left true y both = refl
 both_left false y both = both
 
--- the rows of the record of this name in the batch with this id, if it is there
+-- the rows of the record `r` of the batch with the id `id`, if the record exists
 abbrev rows_in : Facts → ℕ → List ℕ → Option (List Row)
 rows_in f id r =
     option_map (λ (x : StoredRecord). map (row_of r) (filter (is_grouping_at x.batch x.place) (stored_groupings f))) (find (is_record_named id r) (stored_records f))
@@ -73,12 +73,12 @@ module _ (f : Facts) (id : ℕ) (r : List ℕ) where
       ∙ ap (λ k. Some (map (row_of r) (filter (is_grouping_at k row.0.place) (stored_groupings f)))) (sym batch)
       ∙ sym (ap (option_map (λ (y : StoredRecord). map (row_of r) (filter (is_grouping_at y.batch y.place) (stored_groupings f)))) row.1)
 
--- rows that there are none of make no application
+-- a plan of no rows has no segments
 no_segment : (p : Product) (a q : ℕ) → segment_at (plan_of p []) a q ≡ None
 unfolding applications_of grouped
 no_segment p a q = refl
 
--- a segment of these rows, if there are any
+-- segment `q` of application `a` of a record with the given rows, if the record exists
 abbrev segment_under : Product → Option (List Row) → ℕ → ℕ → Option SegmentRow
 segment_under p None a q = None
 segment_under p (Some rows) a q = option_map (segment_row (plan_of p rows)) (segment_at (plan_of p rows) a q)
@@ -124,7 +124,7 @@ module _ (f : Facts) (b r : List ℕ) (a q : ℕ) where
       at None = refl
       at (Some e) = under e.product (rows_in f e.id r)
 
--- ---- a segment, by what is read
+-- ---- a segment, from rows
 
 module _ (f : Facts) (b r : List ℕ) (a q : ℕ) (law : plan_for f b r ≡ plan_in f.products (stored_batches f) (stored_records f) (stored_groupings f) b r) where
   abbrev under_product : Option BatchProduct → Option SegmentRow
@@ -141,7 +141,7 @@ module _ (f : Facts) (b r : List ℕ) (a q : ℕ) (law : plan_for f b r ≡ plan
         → found ≡ row_in_plan (plan_at f e x.place r) a q → found ≡ segment_row_of f b r a q
     segment_read x x_is found found_is = found_is ∙ ap (λ o. segment_under e.product o a q) (rows_at f e.id r x x_is) ∙ ap under_product e_is ∙ sym (segment_by f b r a q law)
 
--- ---- a segment of a record, by its groupings
+-- ---- a segment of a record, from its groupings
 
 abbrev pub row_of_head : BatchProduct → PlacedHead → List ℕ → SegmentRow
 row_of_head e p bytes = record { aid = p.head.aid; bytes = bytes; enc = p.head.enc; tol = p.head.tol; last = p.last; max = e.product.max; low = e.product.low }
@@ -150,7 +150,7 @@ module _ (f : Facts) (e : BatchProduct) (place a q : ℕ) (r : List ℕ) where
   abbrev own : List StoredGrouping
   own = filter (is_grouping_at e.id place) (stored_groupings f)
 
-  -- these are the segments of its groupings
+  -- `heads` are the segments of the groupings.
   abbrev AreHeads : List (List SegmentHead) → Type 0
   AreHeads heads = (gs : List GroupingAt) × AreSorted line_of (map grouping_at own) gs × (heads ≡ heads_of gs)
 

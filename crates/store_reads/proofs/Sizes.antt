@@ -1,4 +1,4 @@
--- How many rows and records a batch has, by what is read of its row.
+-- Lemmas about the numbers of rows and records of a batch, from the part of its row that was read.
 use Rattle.std.proofs.Common.{◌≡◌, ℕ, List, length, Option, Some, None, refl, sym}
 use Rattle.std.specs.Prelude.{filter, option_map}
 use Rattle.std.proofs.lemmas.Option.{none-some, same_Some}

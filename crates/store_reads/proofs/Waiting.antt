@@ -1,4 +1,4 @@
--- The first record of a batch that waits, by what is read of it.
+-- Lemmas about the first waiting record of a batch, from the part of its row that was read.
 use Rattle.std.proofs.Common.{◌≡◌, ℕ, List, map, Option, Some, None, refl, sym, ap, subst, ◌∙◌}
 use Rattle.std.specs.Prelude.{filter, find, option_map}
 use Rattle.job_facts.proofs.Lists.{unmapped}

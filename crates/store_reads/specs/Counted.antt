@@ -1,15 +1,15 @@
--- The counters of a batch, in rows.
+-- The counters of a batch in the rows.
 use Rattle.std.specs.Prelude.{◌==◌, ℕ, Bool, true, false, not}
 use Rattle.table_rows.specs.declared.writing.Writing.{Writing}
 use Rattle.table_rows.specs.declared.writing.Writing.TheVariants as writing
 use Rattle.table_rows.specs.Tables.{HasTotals, Tables}
 use Rattle.store_reads.specs.declared.known.BatchCounters.{BatchCounters}
 
--- these are the counters of the batch with their id
+-- The rows `t` have the counters `counters` for their batch.
 abbrev pub AreCountersIn : Tables → BatchCounters → Type 0
 AreCountersIn t counters = HasTotals counters.batch counters.totals t
 
--- what is written changes no counters of the batch with this id, and adds no batch
+-- The `Writing` changes no counters of the batch with the id `id`, and adds no batch.
 abbrev pub leaves_counters : Writing → ℕ → Bool
 leaves_counters (writing.AddsBatch b) id = false
 leaves_counters (writing.Opens s p) id = not (p.batch == id)

@@ -1,5 +1,5 @@
--- What of the rows no change touches: the products, the names of batches and their records with
--- their places, and the groupings. An import adds to it.
+-- The part of the rows that no change modifies: the products, the names of batches and records, the
+-- positions of records, and the groupings. Only an import or a new product adds to it.
 use Rattle.std.specs.Prelude.{◌==◌, ◌&&◌, ℕ, Bool, true, false, List, map, bytes_eq}
 use Rattle.store_data.specs.declared.row.Product.{Product}
 use Rattle.job_facts.specs.Sound.{AreNamedOnce}
@@ -7,19 +7,19 @@ use Rattle.table_rows.specs.declared.writing.Writing.{Writing}
 use Rattle.table_rows.specs.declared.writing.Writing.TheVariants as writing
 use Rattle.table_rows.specs.Tables.{PassesOnce, StoredBatch, StoredGrouping, StoredRecord, Tables}
 
--- of a batch
+-- the fixed columns of a batch
 pub record FixedBatch : Type 0 where
   pub id : ℕ
   pub name : List ℕ
   pub product : List ℕ
 
--- of a record, in the batch with this id
+-- the fixed columns of a record in the batch with the id `batch`
 pub record FixedRecord : Type 0 where
   pub batch : ℕ
   pub place : ℕ
   pub name : List ℕ
 
--- of all rows
+-- the fixed part of all rows
 pub record Fixed : Type 0 where
   pub products : List Product
   pub batches : List FixedBatch
@@ -35,7 +35,7 @@ fixed_record r = record { batch = r.batch; place = r.place; name = r.name }
 abbrev pub fixed : Tables → Fixed
 fixed t = record { products = t.products; batches = map fixed_batch t.batches; records = map fixed_record t.records; groupings = t.groupings }
 
--- what is written adds no product and no batch
+-- The `Writing` adds no product and no batch.
 abbrev pub leaves_fixed : Writing → Bool
 leaves_fixed (writing.AddsProduct p) = false
 leaves_fixed (writing.AddsBatch b) = false
@@ -43,15 +43,16 @@ leaves_fixed _ = true
 
 -- ---- names
 
--- it has this name
+-- `b` has the name `n`.
 abbrev pub is_named : List ℕ → FixedBatch → Bool
 is_named n b = bytes_eq b.name n
 
--- it has this name in the batch with this id
+-- `r` is in the batch with the id `id` and has the name `n`.
 abbrev pub is_named_in : ℕ → List ℕ → FixedRecord → Bool
 is_named_in id n r = (r.batch == id) && bytes_eq r.name n
 
--- no two products or batches have one name, and no two records of a batch
+-- No two products have the same name, no two batches have the same name, and no two records of a
+-- batch have the same name.
 pub record AreNamedApart (x : Fixed) : Type 0 where
   pub products : AreNamedOnce (map (λ (p : Product). p.code) x.products)
   pub batches : (n : List ℕ) → PassesOnce (is_named n) x.batches

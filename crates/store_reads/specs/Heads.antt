@@ -1,4 +1,4 @@
--- What is read of a batch by what is read of it without its bytes.
+-- Parts of a batch, from its row without the bytes of its file.
 use Rattle.std.specs.Prelude.{◌==◌, ◌&&◌, Bool, Option, Some, None}
 use Rattle.job_facts.specs.declared.rows.BatchRow.{BatchRow}
 use Rattle.job_facts.specs.declared.rows.BatchTotals.{BatchTotals}
@@ -13,23 +13,23 @@ use Rattle.row_laws.specs.RowValues.{no_totals}
 abbrev pub row_of : BatchAt → BatchRow
 row_of b = record { product = b.product; is_closed = b.is_closed }
 
--- a name that no batch has has none
+-- the counters of a batch, which are all 0 if the batch doesn't exist
 abbrev pub totals_in : Option BatchHead → BatchTotals
 totals_in None = no_totals
 totals_in (Some h) = h.totals
 
--- none waits, runs or failed
+-- No record is waiting, running or failed.
 abbrev pub is_over : BatchTotals → Bool
 is_over totals = (totals.waiting == 0) && ((totals.running == 0) && (totals.failed == 0))
 
--- the counters of a batch, by what is read of it
+-- the counters in `h`, with the id of the batch
 abbrev pub counters_at : BatchHead → BatchCounters
 counters_at h = record { batch = h.id; totals = h.totals }
 
--- and by its row
+-- the counters in the row `b`, with the id of the batch
 abbrev pub counters_of : StoredBatch → BatchCounters
 counters_of b = record { batch = b.id; totals = totals_of b }
 
--- where a record of the batch stands, with what is read of the record
+-- the row of the record `r` before a change, with the counters of its batch
 abbrev pub place_at : BatchCounters → RecordAt → RecordPlace
 place_at counters r = record { batch = counters.batch; place = r.place; spoiled = r.spoiled; remakes = r.remakes; totals = counters.totals }

@@ -1,4 +1,4 @@
--- How a product's blanks stand, by what is read of its lots and its batches.
+-- The counters of a product's blanks, from the rows of its lots and batches.
 use Rattle.std.specs.Prelude.{◌<◌, ◌^◌, List, length, sum_by}
 use Rattle.job_facts.specs.declared.rows.BlankTotals.{BlankTotals}
 use Rattle.row_reads.specs.declared.batches.BatchHead.{BatchHead}
@@ -16,7 +16,7 @@ batch_sums heads = record {
   spoiled = sum_by (λ (h : BatchHead). h.totals.spoiled) heads;
 }
 
--- each sum is a number of 64 bits
+-- Each sum is below 2^64.
 pub record AreLotSums (sums : LotSums) : Type 0 where
   pub total : sums.total < 2 ^ 64
   pub discarded : sums.discarded < 2 ^ 64

@@ -1,4 +1,4 @@
-//! What the store answers of a batch: its row, its size and its totals.
+//! Reads a batch, its size and its counters.
 ghost use Rattle.std.specs.Prelude.{false, ◌≡◌};
 ghost use Rattle.sqlite.specs.Held.{state};
 ghost use Rattle.job_facts.specs.Accounts.{batch_totals};
@@ -13,7 +13,7 @@ use row_reads::{BatchHead, batch_by_name, batch_head, grouping_count};
 use sqlite::{Alter, Connection, Error};
 use store_data::Name;
 
-// ---- what is read of what is read
+// ---- parts of rows
 
 fn totals_of(found: Option<BatchHead>) -> BatchTotals
     ensures { result ≡ totals_in found }
@@ -41,7 +41,7 @@ fn is_over(totals: BatchTotals) -> bool
 
 // ---- batches
 
-/// The batch of this name.
+/// Returns the batch with the name `name`.
 pub fn batch<S: Alter>(conn: &mut Connection<S>, name: &Name) -> Result<Option<BatchRow>, Error>
     requires { conn.old.in_transaction ≡ false }
     ensures value { ReadsContents (state S.Store conn.old) (state S.Store conn.new) result
@@ -57,10 +57,10 @@ pub fn batch<S: Alter>(conn: &mut Connection<S>, name: &Name) -> Result<Option<B
     }))
 }
 
-// The numbers of a size go up to it.
+// The maximum number of rows and of records in a `BatchSize`.
 const MOST: u64 = 0xffff_ffff;
 
-/// How many rows and records the batch of this name has.
+/// Returns the numbers of rows and records of the batch `name`.
 pub fn batch_size<S: Alter>(
     conn: &mut Connection<S>,
     name: &Name,
@@ -85,7 +85,7 @@ pub fn batch_size<S: Alter>(
     }))
 }
 
-/// Whether the batch of this name has these bytes.
+/// Returns `true` if the batch `name` was imported from exactly the bytes `raw`.
 pub fn batch_has<S: Alter>(conn: &mut Connection<S>, name: &Name, raw: &[u8]) -> Result<bool, Error>
     requires { conn.old.in_transaction ≡ false }
     ensures value { ReadsContents (state S.Store conn.old) (state S.Store conn.new) result
@@ -96,7 +96,7 @@ pub fn batch_has<S: Alter>(conn: &mut Connection<S>, name: &Name, raw: &[u8]) ->
     row_reads::batch_has(conn, name, raw)
 }
 
-/// Whether each record of a batch is good or withdrawn.
+/// Returns `true` if every record of the batch `batch` is good or withdrawn.
 pub fn is_finished<S: Alter>(conn: &mut Connection<S>, batch: &Name) -> Result<bool, Error>
     requires { conn.old.in_transaction ≡ false }
     ensures value { ReadsContents (state S.Store conn.old) (state S.Store conn.new) result
@@ -108,7 +108,7 @@ pub fn is_finished<S: Alter>(conn: &mut Connection<S>, batch: &Name) -> Result<b
     Ok(is_over(totals))
 }
 
-/// How a batch stands.
+/// Returns the counters of the batch `batch`, which are all 0 if the batch doesn't exist.
 pub fn batch_totals<S: Alter>(conn: &mut Connection<S>, batch: &Name) -> Result<BatchTotals, Error>
     requires { conn.old.in_transaction ≡ false }
     ensures value { ReadsContents (state S.Store conn.old) (state S.Store conn.new) result

@@ -1,4 +1,4 @@
-//! What is written for a change.
+//! Converts a change to the rows that are written for it.
 ghost use Rattle.std.specs.Prelude.{◌≡◌, ◌<◌, ◌^◌, false, IfOk, IfSome, find, option_map};
 ghost use Rattle.sqlite.specs.Held.{state};
 ghost use Rattle.job_facts.specs.Sound.{IsSoundChange};
@@ -34,7 +34,7 @@ fn place_at(counters: &BatchCounters, card: &RecordAt) -> RecordPlace
     }
 }
 
-// The counters of a batch that was read.
+// Returns the counters in `head`, with the id of the batch.
 fn counters_at(head: Option<BatchHead>) -> Option<BatchCounters>
     ensures { result ≡ option_map counters_at head }
 {
@@ -44,7 +44,7 @@ fn counters_at(head: Option<BatchHead>) -> Option<BatchCounters>
     })
 }
 
-// The counters of the batch of this name. Its row is not read where they are known.
+// Returns the counters of the batch `batch`. Its row is read only if they aren't cached.
 fn counters_of<S: Alter>(
     conn: &mut Connection<S>,
     known: &Known,
@@ -67,7 +67,8 @@ fn counters_of<S: Alter>(
     Ok(counters_at(head))
 }
 
-// Where this record of a batch stands. Its row is not read where it is known how it stands.
+// Returns the row of the record `rec` before a change, with the counters of its batch. The row of
+// the record is read only if its state isn't cached.
 fn place_of<S: Alter>(
     conn: &mut Connection<S>,
     known: &Known,
@@ -94,7 +95,8 @@ fn place_of<S: Alter>(
     Ok(place_at(&counters, &card))
 }
 
-// Where the record of a session stands.
+// Returns the row of the record of the session `number` before a change, with the counters of its
+// batch.
 fn place_of_session<S: Alter>(
     conn: &mut Connection<S>,
     known: &Known,
@@ -114,11 +116,11 @@ fn place_of_session<S: Alter>(
 
 // ---- one change
 
-// What is written for a new batch.
+// Returns the `Writing` for a new batch.
 fn batch_writing<'a>(batch: &NewBatch<'a>) -> Writing<'a>
     ensures { result ≡ AddsBatch batch.now }
 {
-    // A copy of the whole would want a proof by hand, since it has a lifetime.
+    // Copying the whole value would need a proof by hand, because it has a lifetime.
     let batch = NewBatch {
         number: batch.number,
         name: batch.name,
@@ -129,7 +131,7 @@ fn batch_writing<'a>(batch: &NewBatch<'a>) -> Writing<'a>
     Writing::AddsBatch { batch }
 }
 
-// What is written for a blank of a lot that is discarded.
+// Returns the `Writing` for discarding the blank `blank` of the lot `lot`.
 fn discard_writing<'a, S: Alter>(
     conn: &mut Connection<S>,
     blank: u64,
@@ -151,7 +153,8 @@ fn discard_writing<'a, S: Alter>(
     })
 }
 
-// What is written for a word after which its session, of this record, stands so.
+// Returns the `Writing` for a status word, after which its session is in the state `stands`. The
+// session belongs to the record `rec` of the batch `batch`.
 fn word_writing<'a, S: Alter>(
     conn: &mut Connection<S>,
     known: &Known,
@@ -179,8 +182,8 @@ fn word_writing<'a, S: Alter>(
     }
 }
 
-/// What is written for a change, with how what it touches stands before it. A change that needs no
-/// more than itself is read nothing for.
+/// Returns the `Writing` for `change`, with the earlier values of the rows that it updates. If it
+/// needs no values from the database, nothing is read.
 pub fn writing_of<'a, S: Alter>(
     conn: &mut Connection<S>,
     known: &Known,

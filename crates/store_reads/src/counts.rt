@@ -1,4 +1,4 @@
-//! How many products, lots, batches and sessions the store has.
+//! Reads the numbers of products, lots, batches and sessions.
 ghost use Rattle.std.specs.Prelude.{IfOk, false, length, ◌<◌, ◌^◌, ◌≡◌};
 ghost use Rattle.sqlite.specs.Held.{state};
 ghost use Rattle.row_reads.specs.Reads.{Looks};
@@ -7,7 +7,7 @@ ghost use Rattle.store_reads.specs.ReadsContents.{ReadsContents};
 use row_reads::{last_batch, last_session};
 use sqlite::{Alter, Connection, Error};
 
-/// How many products there are.
+/// Returns the number of products.
 pub fn product_count<S: Alter>(conn: &mut Connection<S>) -> Result<u64, Error>
     requires { conn.old.in_transaction ≡ false }
     ensures value { ReadsContents (state S.Store conn.old) (state S.Store conn.new) result
@@ -17,7 +17,7 @@ pub fn product_count<S: Alter>(conn: &mut Connection<S>) -> Result<u64, Error>
     row_reads::product_count(conn)
 }
 
-/// How many lots there are.
+/// Returns the number of lots.
 pub fn lot_count<S: Alter>(conn: &mut Connection<S>) -> Result<u64, Error>
     requires { conn.old.in_transaction ≡ false }
     ensures value { ReadsContents (state S.Store conn.old) (state S.Store conn.new) result
@@ -28,7 +28,7 @@ pub fn lot_count<S: Alter>(conn: &mut Connection<S>) -> Result<u64, Error>
     row_reads::lot_count(conn)
 }
 
-/// How many batches there are.
+/// Returns the number of batches.
 pub fn batch_count<S: Alter>(conn: &mut Connection<S>) -> Result<u64, Error>
     requires { conn.old.in_transaction ≡ false }
     ensures value { ReadsContents (state S.Store conn.old) (state S.Store conn.new) result
@@ -39,7 +39,7 @@ pub fn batch_count<S: Alter>(conn: &mut Connection<S>) -> Result<u64, Error>
     last_batch(conn)
 }
 
-/// How many sessions there are.
+/// Returns the number of sessions.
 pub fn session_count<S: Alter>(conn: &mut Connection<S>) -> Result<u64, Error>
     requires { conn.old.in_transaction ≡ false }
     ensures value { ReadsContents (state S.Store conn.old) (state S.Store conn.new) result

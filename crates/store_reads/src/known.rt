@@ -1,6 +1,11 @@
-//! What is known of the records that were read of late: what of their rows no change touches; how
-//! one record stands, which need not be among them, up to the next change; and the counters of
-//! batches, each up to its next change.
+//! A cache of rows that were read or written recently.
+//!
+//! The cache saves the store from reading rows that can't have changed. It has three parts:
+//!
+//! - records: the columns that never change after an import, and their segments without the bytes;
+//! - the state of one record, valid until the next change; the record itself doesn't have to be
+//!   cached;
+//! - the counters of batches, each valid until the next change to its batch.
 ghost use Rattle.std.specs.Prelude.{◌≡◌, ◌<◌, ◌^◌, IfSome};
 ghost use Rattle.std.proofs.Props.{props};
 ghost use Rattle.store_data.specs.Sequence.{IsProduct};
@@ -15,40 +20,42 @@ use std::alloc::Global;
 use store_data::{Name, Product};
 use table_rows::Writing;
 
-/// A record of a batch, as an import put it in.
+/// The columns of a record that never change after the import.
 #[derive(Drop)]
 pub struct KnownRecord {
+    /// The name of the batch.
     pub(crate) batch: Name,
+    /// The name of the record.
     pub(crate) rec: Name,
-    /// The batch's id.
+    /// The id of the batch.
     pub(crate) id: u64,
-    /// The batch's product.
+    /// The product of the batch.
     pub(crate) product: Product,
-    /// The record's place in its batch, from 0.
+    /// The position of the record in its batch, from 0.
     pub(crate) place: u64,
-    /// The segments of each of its applications, without their bytes.
+    /// The segments of each application, without their bytes.
     pub(crate) heads: Vec<Vec<SegmentHead>>,
     ghost id_in_range: { id < 2 ^ 63 },
     ghost place_in_range: { place < 2 ^ 63 },
     ghost product_in_range: { IsProduct product },
 }
 
-/// A record as it stands, in the batch with this id.
+/// The current state of a record in the batch with the id `batch`.
 #[derive(Clone, Copy)]
 pub struct StandingRecord {
     pub(crate) batch: u64,
     pub(crate) card: RecordAt,
 }
 
-/// The counters of the batch with this id.
+/// The counters of the batch with the id `batch`.
 #[derive(Clone, Copy)]
 pub struct BatchCounters {
     pub(crate) batch: u64,
     pub(crate) totals: BatchTotals,
 }
 
-/// The records that were read of late, the oldest first, how the last of them stands, and the
-/// counters that were written of late, the oldest first.
+/// The cache. Records and counters are in order of insertion, and the oldest entry is evicted
+/// first.
 #[derive(Drop)]
 pub struct Known {
     records: Vec<KnownRecord>,
@@ -57,7 +64,7 @@ pub struct Known {
     ghost standing_in_range: { IfSome standing (λ s. IsRecordAt s.card) } by { Prim.hlevel props },
 }
 
-/// So many records are kept at most, and the counters of so many batches. Each running machine
+/// The maximum number of cached records, and of batches with cached counters. Each running machine
 /// works on one record.
 const MOST: usize = 64;
 
@@ -72,7 +79,7 @@ impl Known {
     ghost use Rattle.store_reads.specs.declared.known.BatchCounters.{BatchCounters as Counters};
     ghost use Rattle.store_reads.specs.declared.known.KnownRecord.{KnownRecord as KnownRecordValue};
 
-    /// None.
+    /// Creates an empty cache.
     pub fn new(alloc: Global) -> Known
         ensures { KnowsNothing result }
     {
@@ -83,7 +90,7 @@ impl Known {
         }
     }
 
-    /// The record at this place of the batch with this id.
+    /// Returns the record at position `place` of the batch with the id `id`.
     pub(crate) fn at(&self, id: u64, place: u64) -> Option<&KnownRecord>
         ensures known { IfSome result (λ k. Contains (known_records self.now) k.now) }
         ensures id { IfSome result (λ k. k.now.id ≡ id) }
@@ -97,7 +104,7 @@ impl Known {
         None
     }
 
-    /// The record of this name in the batch of this name.
+    /// Returns the record `rec` of the batch `batch`.
     pub(crate) fn named(&self, batch: &Name, rec: &Name) -> Option<&KnownRecord>
         ensures known { IfSome result (λ k. Contains (known_records self.now) k.now) }
         ensures batch { IfSome result (λ k. k.now.batch ≡ batch.now) }
@@ -111,7 +118,7 @@ impl Known {
         None
     }
 
-    /// A record of the batch of this name.
+    /// Returns any cached record of the batch `batch`.
     pub(crate) fn of_batch(&self, batch: &Name) -> Option<&KnownRecord>
         ensures known { IfSome result (λ k. Contains (known_records self.now) k.now) }
         ensures batch { IfSome result (λ k. k.now.batch ≡ batch.now) }
@@ -124,7 +131,7 @@ impl Known {
         None
     }
 
-    /// How the record of this name in the batch with this id stands.
+    /// Returns the state of the record `rec` of the batch with the id `id`, if the cache has it.
     pub(crate) fn stands(&self, id: u64, rec: &Name) -> Option<&RecordAt>
         ensures known { IfSome result (λ card. IsStandingOf self.now id rec.now card.now) }
         ensures ranged { IfSome result (λ card. IsRecordAt card.now) }
@@ -135,7 +142,7 @@ impl Known {
         }
     }
 
-    // The counters of the batch with this id.
+    // Returns the counters of the batch with the id `id`.
     fn counters_at(&self, id: u64) -> Option<BatchCounters>
         ensures known { IfSome result (λ counters. Contains (known_counters self.now) counters) }
         ensures id { IfSome result (λ counters. counters.batch ≡ id) }
@@ -148,7 +155,8 @@ impl Known {
         None
     }
 
-    /// The counters of the batch of this name, of which a record is known.
+    /// Returns the counters of the batch `batch`. A cached record of the batch supplies its id, so
+    /// the result is `None` if no record of the batch is cached.
     pub(crate) fn counters(&self, batch: &Name) -> Option<BatchCounters>
         ensures known { IfSome result (AreCountersOf self.now batch.now) }
         ensures ranged { IfSome result (λ counters. counters.batch < 2 ^ 63) }
@@ -157,8 +165,9 @@ impl Known {
         self.counters_at(record.id)
     }
 
-    /// Keeps a record, unless one of its name is kept. Of too many the oldest goes. Where there is
-    /// no memory for it, it is not kept: it is read again.
+    /// Adds a record, unless one with the same name and batch is cached. If the cache is full, the
+    /// oldest record is evicted. If an allocation fails, the record is not cached and will be read
+    /// again.
     pub(crate) fn keep(&mut self, read: KnownRecord)
         ensures records { (k : KnownRecordValue) → Contains (known_records self.new) k
             → (k ≡ read) ⊎ Contains (known_records self.old) k }
@@ -174,7 +183,7 @@ impl Known {
         let _ = self.records.push(read);
     }
 
-    /// Keeps how a record stands, in place of another.
+    /// Caches the state of one record and replaces the previous one.
     pub(crate) fn note(&mut self, batch: u64, card: &RecordAt)
         requires { IsRecordAt card.now }
         ensures records { known_records self.new ≡ known_records self.old }
@@ -184,8 +193,8 @@ impl Known {
         self.standing = Some(StandingRecord { batch, card: *card });
     }
 
-    /// Keeps the counters of the batch with this id. Of too many the oldest go. Where there is no
-    /// memory for them, they are not kept: they are read again.
+    /// Caches the counters of the batch with the id `batch`. If the cache is full, the oldest entry
+    /// is evicted. If an allocation fails, the counters are not cached and will be read again.
     pub fn count(&mut self, batch: u64, totals: &BatchTotals)
         ensures records { known_records self.new ≡ known_records self.old }
         ensures standing { standing_record self.new ≡ standing_record self.old }
@@ -200,9 +209,9 @@ impl Known {
         let _ = self.counted.push(BatchCounters { batch, totals });
     }
 
-    /// Forgets how a record stands, the counters that what is written may change, and all records
-    /// where it adds a product or a batch, so that what is left is so before it is written and
-    /// after.
+    /// Removes every entry that `writing` may change: the record state, the counters of its batch,
+    /// all counters if it adds a batch, and all records if it adds a product or a batch. The
+    /// remaining entries are valid before and after `writing` is executed.
     pub fn forget_for(&mut self, writing: &Writing<'_>)
         ensures before { (t : Tables) → IsAllKnownIn t self.old → IsAllKnownIn t self.new }
         ensures after { (t : Tables) (entry : Entry) → IsAllKnownIn t self.old
@@ -217,7 +226,8 @@ impl Known {
     }
 }
 
-// Whether what is written changes no counters of the batch with this id, and adds no batch.
+// Returns `true` if `writing` leaves the counters of the batch with the id `batch` unchanged and
+// adds no batch.
 fn leaves_counters(writing: &Writing<'_>, batch: u64) -> bool
     ensures { result ≡ leaves_counters writing.now batch }
 {
@@ -232,7 +242,7 @@ fn leaves_counters(writing: &Writing<'_>, batch: u64) -> bool
     }
 }
 
-// Whether what is written adds no product and no batch.
+// Returns `true` if `writing` adds no product and no batch.
 fn leaves_fixed(writing: &Writing<'_>) -> bool
     ensures { result ≡ leaves_fixed writing.now }
 {

@@ -1,4 +1,10 @@
-//! What the database of a store gives of its contents.
+//! Reads a store's contents from its database.
+//!
+//! # Errors
+//!
+//! Every function that reads returns the error of SQLite if a query fails. It returns
+//! `Error::InvalidQuery` if the rows can't represent sound contents, or if a number is too large
+//! for SQLite.
 #![tactic(auto)]
 
 mod batches;

@@ -1,4 +1,4 @@
-//! How the records of a batch stand, by their rows and its good cards.
+//! Converts the rows of records and good cards to record lines.
 ghost use Rattle.std.specs.Prelude.{All, IfOk, count_by, map, nat_eq, ℕ, ◌==◌, ◌≡◌, ◌≤◌};
 ghost use Rattle.std.specs.HashMap.{get};
 ghost use Rattle.row_laws.specs.RowValues.{cards};
@@ -12,7 +12,7 @@ use sqlite::Error;
 use std::alloc::Global;
 use std::collections::HashMap;
 
-// How many of a record's sessions are not spoiled.
+// Returns the number of sessions that aren't spoiled, for a record in the state `stands`.
 fn cards(stands: RecordState) -> u64
     ensures value { result ≡ cards stands }
     ensures few { result ≤ 1 }
@@ -23,7 +23,8 @@ fn cards(stands: RecordState) -> u64
     }
 }
 
-// The blanks of good cards by the places of their records. Two cards at one place are an error.
+// Returns the blanks of good cards, keyed by the positions of their records. Returns `InvalidQuery`
+// if a record has two good cards.
 fn blanks_by_place(alloc: Global, good: &[GoodCard]) -> Result<HashMap<u64, u64>, Error>
     ensures value { IfOk result (λ blanks. (k : ℕ) → get nat_eq blanks k ≡ blank_of good.now k) }
     ensures once { IfOk result (λ _. (k : ℕ) → count_by (is_card_at k) good.now ≤ 1) }
@@ -50,7 +51,12 @@ fn line_with(rec: &RecordAt, blank: Option<u64>) -> RecordLine
     }
 }
 
-/// The line of each record. Two good cards at one place are an error.
+/// Returns the line of each record in `records`. `good` contains the good cards of the batch.
+///
+/// # Errors
+///
+/// - `InvalidQuery`: a record has two good cards.
+/// - `SqliteFailure(OutOfMemory)`: an allocation fails.
 pub(crate) fn lines_for(
     alloc: Global,
     records: &[RecordAt],

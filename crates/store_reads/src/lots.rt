@@ -1,4 +1,4 @@
-//! What the store answers of lots and of blanks.
+//! Reads lots, and whether a blank is charged.
 ghost use Rattle.std.specs.Prelude.{false, ◌≡◌};
 ghost use Rattle.sqlite.specs.Held.{state};
 ghost use Rattle.job_facts.specs.States.{any_overlaps, is_charged, lot_named, lot_of};
@@ -10,7 +10,7 @@ use job_facts::Lot;
 use sqlite::{Alter, Connection, Error};
 use store_data::Name;
 
-/// The lot of this name.
+/// Returns the lot with the name `name`.
 pub fn lot<S: Alter>(conn: &mut Connection<S>, name: &Name) -> Result<Option<Lot>, Error>
     requires { conn.old.in_transaction ≡ false }
     ensures value { ReadsContents (state S.Store conn.old) (state S.Store conn.new) result
@@ -22,7 +22,7 @@ pub fn lot<S: Alter>(conn: &mut Connection<S>, name: &Name) -> Result<Option<Lot
     Ok(found.map(|row| row.lot))
 }
 
-/// The lot in which a blank lies.
+/// Returns the lot that contains the blank `blank`.
 pub fn lot_of<S: Alter>(conn: &mut Connection<S>, blank: u64) -> Result<Option<Lot>, Error>
     requires { conn.old.in_transaction ≡ false }
     ensures value { ReadsContents (state S.Store conn.old) (state S.Store conn.new) result
@@ -34,7 +34,7 @@ pub fn lot_of<S: Alter>(conn: &mut Connection<S>, blank: u64) -> Result<Option<L
     row_reads::lot_of(conn, blank)
 }
 
-/// Whether a serial of the range lies in a lot.
+/// Returns `true` if a lot contains one of the `count` serials that start with `first`.
 pub fn overlaps<S: Alter>(conn: &mut Connection<S>, first: u64, count: u32) -> Result<bool, Error>
     requires { conn.old.in_transaction ≡ false }
     ensures value { ReadsContents (state S.Store conn.old) (state S.Store conn.new) result
@@ -45,7 +45,7 @@ pub fn overlaps<S: Alter>(conn: &mut Connection<S>, first: u64, count: u32) -> R
     row_reads::overlaps(conn, first, count)
 }
 
-/// Whether an opening or a discard names the blank.
+/// Returns `true` if `blank` is charged by an `open` or a `discard`.
 pub fn is_charged<S: Alter>(conn: &mut Connection<S>, blank: u64) -> Result<bool, Error>
     requires { conn.old.in_transaction ≡ false }
     ensures value { ReadsContents (state S.Store conn.old) (state S.Store conn.new) result

@@ -1,4 +1,4 @@
-//! What the store answers of a product.
+//! Reads a product.
 ghost use Rattle.std.specs.Prelude.{IfOk, IfSome, false, ◌≡◌};
 ghost use Rattle.sqlite.specs.Held.{state};
 ghost use Rattle.store_data.specs.Sequence.{IsProduct};
@@ -9,7 +9,7 @@ ghost use Rattle.store_reads.specs.ReadsContents.{ReadsContents};
 use sqlite::{Alter, Connection, Error};
 use store_data::{Name, Product};
 
-/// The product of this code.
+/// Returns the product with the name `code`.
 pub fn product<S: Alter>(conn: &mut Connection<S>, code: &Name) -> Result<Option<Product>, Error>
     requires { conn.old.in_transaction ≡ false }
     ensures value { ReadsContents (state S.Store conn.old) (state S.Store conn.new) result

@@ -1,4 +1,4 @@
-//! The numbers of SQL.
+//! The limit of integers in SQLite.
 
-// They end below it.
+// Integers that can be stored in the database are below this limit.
 pub(crate) const END: u64 = 1 << 63;

@@ -1,4 +1,4 @@
-//! The segments of a record's plan without their bytes, by its groupings without theirs.
+//! The segments of a record without their bytes, computed from its groupings without their bytes.
 ghost use Rattle.std.specs.Prelude.{◌≡◌, All, IfOk, map};
 ghost use Rattle.std.specs.List.{flat_map};
 ghost use Rattle.store_data.specs.Groups.{grouped};
@@ -12,24 +12,30 @@ use row_reads::{CodedAt, GroupingAt};
 use std::alloc::{AllocError, Global};
 use store_data::{Aid, Bytes, Enc, join_at};
 
-/// A segment of a plan without its bytes: whose it is, and the marks of its groupings.
+/// A segment without its bytes: its application, its rank, and the encryption and tolerance of its
+/// groupings.
 #[derive(Clone, Copy)]
 pub(crate) struct SegmentHead {
+    /// The application identifier.
     pub(crate) aid: Aid,
+    /// The rank.
     pub(crate) rank: u16,
+    /// The encryption.
     pub(crate) enc: Enc,
+    /// `true` if the segment is tolerant.
     pub(crate) tol: bool,
 }
 
-/// Such a segment, as its application has it.
+/// A segment without its bytes, as part of its application.
 #[derive(Clone, Copy)]
 pub(crate) struct PlacedHead {
+    /// The segment.
     pub(crate) head: SegmentHead,
-    /// Whether it is its application's last.
+    /// `true` if it is the last segment of its application.
     pub(crate) last: bool,
 }
 
-// These groupings by application, the applications by first appearance.
+// Returns the groupings by application. The applications are in the order of their first groupings.
 fn by_application(
     alloc: Global,
     groupings: &[GroupingAt],
@@ -46,10 +52,11 @@ fn by_application(
     Ok(groups)
 }
 
-/// One more than the greatest rank.
+/// The highest rank plus 1.
 const RANKS: usize = 1000;
 
-// The segments of an application with these groupings, by rising rank.
+// Returns the segments of one application, in ascending order of their ranks. `own` contains the
+// groupings of the application.
 fn heads_in(alloc: Global, own: &[GroupingAt]) -> Result<Vec<SegmentHead>, AllocError>
     requires { All IsGroupingAt own.now }
     ensures { IfOk result (λ heads. heads.items ≡ heads_in own.now) }
@@ -75,8 +82,13 @@ fn heads_in(alloc: Global, own: &[GroupingAt]) -> Result<Vec<SegmentHead>, Alloc
     Ok(heads)
 }
 
-/// The segments of a record with these groupings, those of each application together, so that one
-/// is found in a time that does not depend on how many there are.
+/// Returns the segments of a record with the groupings `groupings`, in one list for each
+/// application. A segment can then be found in a time that doesn't depend on the number of
+/// segments.
+///
+/// # Errors
+///
+/// Returns `AllocError` if an allocation fails.
 pub(crate) fn heads_of(
     alloc: Global,
     groupings: &[GroupingAt],
@@ -93,7 +105,7 @@ pub(crate) fn heads_of(
     Ok(heads)
 }
 
-/// Segment `segment` of application `app` of a record with these segments, both from 0.
+/// Returns segment `segment` of application `app`. Both numbers start at 0.
 pub(crate) fn head_at(heads: &[Vec<SegmentHead>], app: u16, segment: u16) -> Option<PlacedHead>
     ensures { result ≡ head_at (map (λ own. own.items) heads.now) app segment }
 {
@@ -106,7 +118,11 @@ pub(crate) fn head_at(heads: &[Vec<SegmentHead>], app: u16, segment: u16) -> Opt
     })
 }
 
-/// The bytes of groupings, joined.
+/// Returns the joined bytes of `groupings`.
+///
+/// # Errors
+///
+/// Returns `AllocError` if an allocation fails.
 pub(crate) fn joined(alloc: Global, groupings: &[CodedAt]) -> Result<Bytes, AllocError>
     ensures { IfOk result
         (λ bytes. bytes ≡ flat_map (λ (g : CodedAtValue). g.coded) groupings.now) }

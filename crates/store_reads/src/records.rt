@@ -1,4 +1,4 @@
-//! What the store answers of a record's state, and which record waits first.
+//! Reads the state of a record, and the first waiting record of a batch.
 ghost use Rattle.std.specs.Prelude.{IsTrue, OnOk, false, ◌<◌, ◌^◌, ◌≡◌};
 ghost use Rattle.sqlite.specs.Held.{state};
 ghost use Rattle.sqlite.specs.State.{HasCleanDisk};
@@ -14,7 +14,8 @@ use row_reads::{batch_id, record_named};
 use sqlite::{Alter, Connection, Error};
 use store_data::Name;
 
-/// The state of a record, if the batch has it.
+/// Returns the state of the record `rec` of the batch `batch`, or `None` if the batch doesn't
+/// contain it.
 pub fn record_state<S: Alter>(
     conn: &mut Connection<S>,
     batch: &Name,
@@ -34,7 +35,7 @@ pub fn record_state<S: Alter>(
     Ok(found.map(|card| card.stands))
 }
 
-/// Reads how the record of this name in the batch with this id stands. It is known from then on.
+/// Reads the state of the record `rec` of the batch with the id `id`, and caches it.
 pub(crate) fn note_standing<S: Alter>(
     conn: &mut Connection<S>,
     known: &mut Known,
@@ -56,7 +57,7 @@ pub(crate) fn note_standing<S: Alter>(
     Ok(())
 }
 
-// The first waiting record of the batch with this id. It is known from then on how it stands.
+// Returns the first waiting record of the batch with the id `id`, and caches its state.
 fn waiting_of<S: Alter>(
     conn: &mut Connection<S>,
     known: &mut Known,
@@ -77,8 +78,8 @@ fn waiting_of<S: Alter>(
     Ok(Some(card.name))
 }
 
-/// The first waiting record of a batch, in file order. The batch's id is read unless one of its
-/// records is known.
+/// Returns the first waiting record of the batch `batch`, in file order. The id of the batch is
+/// read only if none of its records is cached.
 pub fn first_waiting<S: Alter>(
     conn: &mut Connection<S>,
     known: &mut Known,

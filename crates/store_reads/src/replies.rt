@@ -1,4 +1,4 @@
-//! What the store answers of kept replies and of release marks.
+//! Reads kept replies and release marks.
 ghost use Rattle.std.specs.Prelude.{false, length, option_map, ◌≡◌};
 ghost use Rattle.sqlite.specs.Held.{state};
 ghost use Rattle.job_facts.specs.Contents.{entry_of, mark_of, reply_of_entry};
@@ -10,7 +10,7 @@ use job_facts::KeptReply;
 use sqlite::{Alter, Connection, Error};
 use store_data::Name;
 
-/// The reply that is kept under a client's number.
+/// Returns the reply that is kept under the number `number` of `client`.
 pub fn kept<S: Alter>(
     conn: &mut Connection<S>,
     client: &Name,
@@ -28,7 +28,7 @@ pub fn kept<S: Alter>(
     row_reads::kept(conn, client, number)
 }
 
-/// The number up to which a client has released its numbers; 0 where it never did.
+/// Returns the release mark of `client`, or 0 if it has released nothing.
 pub fn mark<S: Alter>(conn: &mut Connection<S>, client: &Name) -> Result<u64, Error>
     requires { conn.old.in_transaction ≡ false }
     ensures value { ReadsContents (state S.Store conn.old) (state S.Store conn.new) result
@@ -39,7 +39,7 @@ pub fn mark<S: Alter>(conn: &mut Connection<S>, client: &Name) -> Result<u64, Er
     row_reads::mark(conn, client)
 }
 
-/// How many replies are kept.
+/// Returns the number of kept replies.
 pub fn reply_count<S: Alter>(conn: &mut Connection<S>) -> Result<u64, Error>
     requires { conn.old.in_transaction ≡ false }
     ensures value { ReadsContents (state S.Store conn.old) (state S.Store conn.new) result

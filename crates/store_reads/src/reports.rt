@@ -1,4 +1,4 @@
-//! What the store answers of the accounts of a batch and of a product's blanks.
+//! Reads the record lines of a batch, and the account of a product's blanks.
 ghost use Rattle.std.specs.Prelude.{false, ◌≡◌, ◌<◌, ◌^◌};
 ghost use Rattle.sqlite.specs.Held.{state};
 ghost use Rattle.job_facts.specs.Accounts.{blank_totals, record_lines};
@@ -13,7 +13,7 @@ use row_reads::{batch_id, batches_of, good_sessions, lots_of, records_of};
 use sqlite::{Alter, Connection, Error};
 use store_data::Name;
 
-// The lines of the records of the batch with this id, in file order.
+// Returns the lines of the records of the batch with the id `id`, in file order.
 fn lines_with<S: Alter>(conn: &mut Connection<S>, id: u64) -> Result<Vec<RecordLine>, Error>
     requires idle { conn.old.in_transaction ≡ false }
     requires id { id < 2 ^ 63 }
@@ -28,7 +28,8 @@ fn lines_with<S: Alter>(conn: &mut Connection<S>, id: u64) -> Result<Vec<RecordL
     lines_for(alloc, records.as_slice(), good.as_slice())
 }
 
-/// How the records of a batch stand, in file order.
+/// Returns a line for each record of the batch `batch`, in file order. The list is empty if the
+/// batch doesn't exist.
 pub fn record_lines<S: Alter>(
     conn: &mut Connection<S>,
     batch: &Name,
@@ -40,12 +41,12 @@ pub fn record_lines<S: Alter>(
 {
     row_laws::batches_by_name();
     row_laws::lines_by_rows();
-    // No batch has the id 0: a batch that is not there has no records.
+    // No batch has the id 0, so a batch that doesn't exist has no records.
     let id = batch_id(conn, batch)?.unwrap_or(0);
     lines_with(conn, id)
 }
 
-/// How a product's blanks stand.
+/// Returns the counters of the blanks of the product `product`.
 pub fn blank_totals<S: Alter>(
     conn: &mut Connection<S>,
     product: &Name,

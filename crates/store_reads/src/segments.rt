@@ -1,4 +1,4 @@
-//! What the store answers of a segment of a record's plan.
+//! Reads one segment of a record.
 ghost use Rattle.std.specs.Prelude.{IfOk, IfSome, IsTrue, false, map, None, ◌<◌, ◌^◌, ◌≡◌, ◌≤◌};
 ghost use Rattle.sqlite.specs.Held.{state};
 ghost use Rattle.sqlite.specs.State.{HasCleanDisk};
@@ -20,16 +20,18 @@ use row_reads::{RecordAt, batch_by_name, coded_of, groupings_of, record_named};
 use sqlite::{Alter, Connection, Error};
 use store_data::{Name, Product};
 
-/// A batch's id, and its product.
+/// The id of a batch, and its product.
 #[derive(Clone, Copy)]
 pub(crate) struct BatchProduct {
+    /// The id of the batch.
     pub(crate) id: u64,
+    /// The product of the batch.
     pub(crate) product: Product,
 }
 
 // ---- a record
 
-// The id of the batch of this name, and its product.
+// Returns the id and the product of the batch `batch`.
 fn product_in<S: Alter>(
     conn: &mut Connection<S>,
     batch: &Name,
@@ -51,7 +53,8 @@ fn product_in<S: Alter>(
     }))
 }
 
-// The segments of the record at this place of the batch with this id, without their bytes.
+// Returns the segments of the record at position `place` of the batch with the id `id`, without
+// their bytes.
 fn heads_at<S: Alter>(
     conn: &mut Connection<S>,
     id: u64,
@@ -69,7 +72,7 @@ fn heads_at<S: Alter>(
     Ok(heads)
 }
 
-// The record of this name in the batch of this name, if it is there.
+// Reads the record `rec` of the batch `batch`. Returns `None` if it doesn't exist.
 fn record_read<S: Alter>(
     conn: &mut Connection<S>,
     batch: &Name,
@@ -103,7 +106,8 @@ fn record_read<S: Alter>(
     }))
 }
 
-// The record that stands so, of the batch of another, with these segments.
+// Returns the record with the state `card` and the segments `heads`, in the batch of the record
+// `other`.
 fn beside(other: &KnownRecord, card: &RecordAt, heads: Vec<Vec<SegmentHead>>) -> KnownRecord
     requires { IsRecordAt card.now }
     ensures batch { result.batch ≡ other.now.batch }
@@ -123,8 +127,8 @@ fn beside(other: &KnownRecord, card: &RecordAt, heads: Vec<Vec<SegmentHead>>) ->
     }
 }
 
-// The record, if it is there. Where one of its batch is known, and how it stands itself, its
-// groupings alone are read.
+// Returns the record `rec` of the batch `batch`, or `None` if it doesn't exist. If another record
+// of the batch and the state of this record are cached, only its groupings are read.
 fn record_found<S: Alter>(
     conn: &mut Connection<S>,
     known: &Known,
@@ -152,8 +156,8 @@ fn record_found<S: Alter>(
 
 // ---- a segment
 
-// Segment `segment` of application `app` of a record, if it has it. Of its other segments nothing
-// is read.
+// Returns segment `segment` of application `app` of the record `card`, or `None` if the record
+// doesn't have it. The bytes of other segments aren't read.
 fn segment_of<S: Alter>(
     conn: &mut Connection<S>,
     card: &KnownRecord,
@@ -190,9 +194,12 @@ fn segment_of<S: Alter>(
     }))
 }
 
-/// Segment `segment` of application `app` of a record, both from 0, if the record has it. Its
-/// record is read unless it is known, and is known from then on. Where a known record has no such
-/// segment, how the record stands is read and known.
+/// Returns segment `segment` of application `app` of the record `rec`, or `None` if the record
+/// doesn't have it. Both numbers start at 0.
+///
+/// The record is read only if it isn't cached, and is cached afterwards. If a cached record doesn't
+/// have the segment, its state is read and cached. Only a read shows that the connection is open,
+/// and the change after the last command needs this state.
 pub fn segment<S: Alter>(
     conn: &mut Connection<S>,
     known: &mut Known,

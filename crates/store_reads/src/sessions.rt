@@ -1,4 +1,4 @@
-//! What the store answers of a session, by its number or its machine.
+//! Reads a session by its number or by its machine.
 ghost use Rattle.std.specs.Prelude.{IfOk, IfSome, false, ◌≡◌};
 ghost use Rattle.sqlite.specs.Held.{state};
 ghost use Rattle.store_data.specs.Cursor.{IsCursor};
@@ -17,7 +17,7 @@ use row_reads::{SessionAt, batch_name, record_at};
 use sqlite::{Alter, Connection, Error};
 use store_data::Name;
 
-// A session, of the record of this name in the batch of this name.
+// Returns the session with the names of its batch and its record.
 fn row_named(found: &SessionAt, batch: Name, rec: Name) -> SessionRow
     ensures { result ≡ row_named found.now batch rec }
 {
@@ -31,8 +31,8 @@ fn row_named(found: &SessionAt, batch: Name, rec: Name) -> SessionRow
     }
 }
 
-/// The session of this number. The names of its batch and its record are read unless the record is
-/// known.
+/// Returns the session with the number `session`. The names of its batch and its record are read
+/// only if the record isn't cached.
 pub fn session<S: Alter>(
     conn: &mut Connection<S>,
     known: &Known,
@@ -69,7 +69,7 @@ pub fn session<S: Alter>(
     Ok(Some(row_named(&found, batch, card.name)))
 }
 
-/// The number of a machine's running session.
+/// Returns the number of the running session of `machine`.
 pub fn running_session<S: Alter>(
     conn: &mut Connection<S>,
     machine: &Name,

@@ -1,4 +1,4 @@
-//! How a product's blanks stand, by the rows of its lots and its batches.
+//! The counters of a product's blanks, computed from the rows of its lots and batches.
 ghost use Rattle.std.specs.Prelude.{IfOk, IsOk, ◌<◌, ◌^◌, ◌≡◌, ◌+◌};
 ghost use Rattle.store_reads.specs.Sums.{AreBatchSums, AreLotSums, batch_sums, lot_sums};
 ghost use Rattle.store_reads.specs.Sums.{totals_of_rows};
@@ -7,14 +7,14 @@ use job_facts::BlankTotals;
 use row_reads::{BatchHead, LotRow};
 use sqlite::Error;
 
-// Of lots.
+// Sums over the lots of a product.
 #[derive(Clone, Copy)]
 struct LotSums {
     total: u64,
     discarded: u64,
 }
 
-// Of batches.
+// Sums over the batches of a product.
 #[derive(Clone, Copy)]
 struct BatchSums {
     good: u64,
@@ -22,7 +22,8 @@ struct BatchSums {
     spoiled: u64,
 }
 
-// A sum past 64 bits is an error: sound contents have none.
+// Returns `a + b`, or `InvalidQuery` if it doesn't fit in 64 bits. The sums of sound contents
+// always fit.
 fn plus(a: u64, b: u64) -> Result<u64, Error>
     ensures value { IfOk result (λ sum. sum ≡ a + b) }
     ensures total { a + b < 2 ^ 64 → IsOk result }
@@ -66,7 +67,11 @@ fn batch_sums(heads: &[BatchHead]) -> Result<BatchSums, Error>
     Ok(sums)
 }
 
-/// The sums over a product's lots and its batches, where each is a number of 64 bits.
+/// Returns the counters of a product's blanks, as sums over its lots and batches.
+///
+/// # Errors
+///
+/// Returns `InvalidQuery` if a sum doesn't fit in 64 bits.
 pub(crate) fn totals_of_rows(lots: &[LotRow], heads: &[BatchHead]) -> Result<BlankTotals, Error>
     ensures value { IfOk result (λ totals. totals ≡ totals_of_rows lots.now heads.now) }
     ensures total { AreLotSums (lot_sums lots.now) → AreBatchSums (batch_sums heads.now)

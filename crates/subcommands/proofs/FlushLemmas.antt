@@ -1,4 +1,4 @@
--- A run whose text was printed into a buffer, which then goes out or doesn't.
+-- A run whose text was printed into a buffer that is then flushed, successfully or not.
 use Rattle.std.proofs.Common.{◌≡◌, ◌⊎◌, ℕ, List, [], Option, Some, None, Result, Ok, Err, inl, inr, refl, subst, append-nil}
 use Rattle.std.specs.Io.KnownBytes.{Appends, Keeps}
 use Rattle.std.proofs.KnownBytes.{Appends-kept}
@@ -20,11 +20,11 @@ use Rattle.subcommands.specs.Runs.{DrillRuns, PlanRuns}
 use Rattle.subcommands.specs.declared.end.End.{End}
 use Rattle.subcommands.specs.declared.end.End.TheVariants.{Done, BadLine, WriteFailed}
 
--- the buffer went out, or else the end is a failed write
+-- the buffer was flushed and the run has the end `wanted`, or the run ends with a failed write
 abbrev pub Flushes : End → End → List ℕ → Type 0
 Flushes wanted end buffer = ((end ≡ wanted) × (buffer ≡ [])) ⊎ (end ≡ WriteFailed)
 
--- a whole text is a beginning of itself
+-- A complete text is a prefix of itself.
 whole : (before mid after : Option (List ℕ)) (text : List ℕ) → Appends before mid text → Keeps mid after → AppendsBeginning before after text
 whole before mid after text written kept = (text, [], append-nil text, Appends-kept before mid after text written kept)
 
@@ -37,7 +37,7 @@ plan_flushed p known before mid after end buffer (raw, agrees, (rows, few, is, w
 
 -- ---- a drill
 
--- so far as the lines went, with what was written after them
+-- A run of lines is still a run if its text was written to another output.
 rewritten : {S : Type 0} (state : S → State) (usable : S → Type 0) (s : S) (fl : Floor) (count : ℕ) (ls : List (List ℕ)) (before mid after : Option (List ℕ)) (r : Result (Unit {0}) DrillStop) (runs : Runs state usable s fl count ls before mid r)
     → IsWritten before after (printed runs.did runs.ended_in) r → Runs state usable s fl count ls before after r
 rewritten state usable s fl count ls before mid after r runs written = record {
@@ -64,7 +64,7 @@ lost state usable s fl count ls before mid after r runs went_on written = record
   written = subst (λ d. AppendsBeginning before after (printed runs.did d)) went_on written;
 }
 
--- each line that was done went on
+-- A drill that succeeds or ends at a malformed line wasn't ended by a line that was run.
 none_late : {S : Type 0} (state : S → State) (s : S) (fl : Floor) (count : ℕ) (left : List (List ℕ)) (ended_in : Option Did) (u : Unit {0}) → EndsAt state s fl count left ended_in (Ok u) → ended_in ≡ None
 none_late state s fl count left None u ends = refl
 none_late state s fl count left (Some did) u ends = absurd ends

@@ -1,4 +1,5 @@
--- How the program ends: its exit status, and its words on standard error (this project's profile).
+-- The ends of a run, with their exit statuses and their words on standard error (this project's
+-- profile).
 use Rattle.std.specs.Prelude.{ℕ, Bool, List, ◌++◌, codes, if◌then◌else◌, None, Some}
 use Rattle.std.specs.Prelude.{Result, Ok, Err}
 use Rattle.std.specs.Fmt.{decimal}
@@ -26,9 +27,10 @@ use Rattle.arguments.specs.declared.words.WordsFault.TheVariants as words
 use Rattle.plan_print.specs.declared.plan.PlanStop.{PlanStop}
 use Rattle.plan_print.specs.declared.plan.PlanStop.TheVariants as stop
 
--- done and help end with 0, a refusal or a bad line with 1, wrong arguments with 2, and a fault of
--- a file, a device or of memory with 3; a fault of a batch is printed by its number and row, every
--- other refusal by its number alone, and there are no words where clap has a text of its own
+-- the exit status and the words of an end: 0 for success and help, 1 for a refusal or a bad line, 2
+-- for wrong arguments, 3 for a fault of a file, a device or of memory; the fault of a batch file is
+-- printed with its number and row, every other refusal with its number, and a usage error has no
+-- words because its text was printed
 abbrev pub exit_of : End → Exit
 exit_of end.Done = record { status = 0; words = None }
 exit_of end.Helped = record { status = 0; words = None }
@@ -52,7 +54,7 @@ exit_of end.ReadFailed = record { status = 3; words = Some error_line.Device }
 exit_of end.WriteFailed = record { status = 3; words = Some error_line.Device }
 exit_of end.Memory = record { status = 3; words = Some error_line.Memory }
 
--- the text of the words
+-- the text of the words about an end
 abbrev pub line_text : ErrorLine → List ℕ
 line_text (error_line.Refused number) = codes "refused " ++ decimal number
 line_text (error_line.RefusedRow number row) =
@@ -64,7 +66,7 @@ line_text error_line.Storage = codes "storage"
 line_text error_line.Device = codes "device"
 line_text error_line.Memory = codes "memory"
 
--- ---- which end it is
+-- ---- the ends of each subcommand
 
 abbrev pub end_of_store : StoreFault → End
 end_of_store store.Memory = end.Memory
@@ -85,31 +87,31 @@ end_of_drill_stop drill.ReadFailed = end.ReadFailed
 end_of_drill_stop drill.WriteFailed = end.WriteFailed
 end_of_drill_stop drill.Memory = end.Memory
 
--- of `plan`
+-- the end of `plan`
 abbrev pub end_of_plan : Result (Unit {0}) PlanStop → End
 end_of_plan (Ok u) = end.Done
 end_of_plan (Err stop) = end_of_plan_stop stop
 
--- of `drill`
+-- the end of `drill`
 abbrev pub end_of_drill : Result (Unit {0}) DrillStop → End
 end_of_drill (Ok u) = end.Done
 end_of_drill (Err stop) = end_of_drill_stop stop
 
--- of a file that isn't taken
+-- the end of a run whose file can't be opened
 abbrev pub end_of_file : FileFault → End
 end_of_file (file.NotOurs cause) = end.NotOurs
 end_of_file (file.Damaged cause) = end.Damaged
 end_of_file file.Storage = end.Storage
 end_of_file file.Memory = end.Memory
 
--- of `serve`
+-- the end of `serve`
 abbrev pub end_of_serve_stop : ServeStop → End
 end_of_serve_stop serve.Next = end.PortFailed
 end_of_serve_stop serve.Write = end.WriteFailed
 end_of_serve_stop serve.Memory = end.Memory
 end_of_serve_stop (serve.Store fault) = end_of_store fault
 
--- of `report`
+-- the end of `report`
 abbrev pub end_of_account : AccountFault → End
 end_of_account (account.Refused why) = end.NotReported why
 end_of_account (account.Store fault) = end_of_store fault
@@ -123,12 +125,12 @@ end_of_feed_stop feed.ReadFailed = end.ReadFailed
 end_of_feed_stop feed.WriteFailed = end.WriteFailed
 end_of_feed_stop feed.Memory = end.Memory
 
--- of `feed`
+-- the end of `feed`
 abbrev pub end_of_feed : Result (Unit {0}) FeedStop → End
 end_of_feed (Ok u) = end.Done
 end_of_feed (Err stop) = end_of_feed_stop stop
 
--- of words that give no subcommand, by whether clap's text was written
+-- the end of a run without a subcommand; `is_written`: the text of the fault was written
 abbrev pub end_of_words : WordsFault → Bool → End
 end_of_words (words.Help text) is_written = if is_written then end.Helped else end.WriteFailed
 end_of_words (words.Version text) is_written = if is_written then end.Helped else end.WriteFailed

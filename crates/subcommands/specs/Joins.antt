@@ -1,4 +1,5 @@
--- What joins the program's words to its streams and its file, and the file to its end.
+-- The connection of the arguments of `persod` with its streams, its database file and its event
+-- lines.
 use Rattle.std.specs.Prelude.{◌≡◌, ◌++◌, ◌∷◌, [], ℕ, List, Option, Some, None, Result, Ok, Err}
 use Rattle.std.specs.Prelude.{String, codes, string_bytes}
 use Rattle.std.specs.Global.{Global}
@@ -25,14 +26,15 @@ use Rattle.arguments.specs.declared.words.Words.TheVariants.{Plan, Drill, Serve,
 use Rattle.arguments.specs.declared.words.WordsFault.{WordsFault}
 use Rattle.arguments.specs.declared.words.WordsFault.TheVariants as words
 
--- by what the variable is found to be: a value that isn't UTF-8 asks for the usual lines
+-- the level of event lines for the value of `PERSOD_LOG`; a value that isn't UTF-8 means the usual
+-- lines
 abbrev pub level_by : Result (String Global) VarError → Level
 level_by (Ok value) = level_of (Some (string_bytes value))
 level_by (Err variable.NotPresent) = level_of None
 level_by (Err variable.NotUnicode) = Usual
 level_by (Err variable.OutOfMemory) = Off
 
--- `serve` makes a new file where there is none, and no other subcommand does
+-- only `serve` creates a file that doesn't exist
 abbrev pub wanted_of : Words → Wanted
 wanted_of (Serve db port turns) = wanted.Any
 wanted_of (Plan max low check) = wanted.Ours
@@ -40,8 +42,8 @@ wanted_of Drill = wanted.Ours
 wanted_of (Report db batch) = wanted.Ours
 wanted_of (Feed port start) = wanted.Ours
 
--- clap's text of help or of the version goes to the output, that of a usage fault to the errors,
--- and nothing else goes to either
+-- the text of help or of the version is written to the output, and that of a usage error to the
+-- errors; nothing else is written to either
 abbrev pub Explains : WordsFault → Option (List ℕ) → Option (List ℕ) → Option (List ℕ)
     → Option (List ℕ) → Result (Unit {0}) WriteFailed → Type 0
 Explains (words.Help text) output output_after errors errors_after written =
@@ -53,19 +55,19 @@ Explains (words.Usage text) output output_after errors errors_after written =
 Explains _ output output_after errors errors_after written =
     Keeps output output_after × Keeps errors errors_after × (written ≡ Ok tt)
 
--- what was done over a store ends so where the store is closed
+-- the end of a run over a store that was then closed
 abbrev pub end_of_close : End → Result (Unit {0}) StoreFault → End
 end_of_close end (Ok u) = end
 end_of_close end (Err fault) = end_of_store fault
 
 -- ---- the event line of a file that is refused
 
--- the table, the index or the view that a cause names
+-- the key and value for the table, index or view that a cause names
 abbrev pub table_pair : Option (List ℕ) → List ℕ
 table_pair None = []
 table_pair (Some name) = quoted_pair (codes "table") name
 
--- how many durable commits a damaged WAL still has behind the damage
+-- the key and value for the number of durable commits after the damage of a WAL
 abbrev pub commits_pair : Option ℕ → List ℕ
 commits_pair None = []
 commits_pair (Some commits) = number_pair (codes "commits") commits

@@ -1,4 +1,5 @@
 pub mod Ends
 pub mod Joins
 pub mod Runs
+pub mod Suspect
 pub mod Unstarted

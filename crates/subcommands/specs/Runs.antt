@@ -1,4 +1,4 @@
--- A run of a subcommand: what it reads and prints, and how it ends.
+-- The runs of the subcommands: their input, their output and their end.
 use Rattle.std.specs.Prelude.{◌≡◌, ⊤, ℕ, Bool, List, codes, Option, Result}
 use Rattle.store_data.specs.declared.row.Product.{Product}
 use Rattle.text_io.specs.Inputs.{Agrees}
@@ -18,22 +18,24 @@ use Rattle.arguments.specs.declared.words.FeedStart.{FeedStart}
 use Rattle.arguments.specs.declared.words.Words.{Words}
 use Rattle.arguments.specs.declared.words.Words.TheVariants.{Plan, Drill, Serve, Report, Feed}
 
--- the product that the values of `plan` stand for, by the name `plan`
+-- the product with the options of `plan`, which has the name `plan`
 abbrev pub product_of : ℕ → ℕ → Bool → Product
 product_of max low check = record { code = codes "plan"; max = max; low = low; check = check }
 
--- for the known input the engine of `plan` writes so, and the end is its end
+-- a run of `plan` on the input `known` turns the output `before` into `after` and ends with `end`
 abbrev pub PlanRuns : Product → Option (List ℕ) → Option (List ℕ) → Option (List ℕ) → End → Type 0
 PlanRuns p known before after end = (raw : List ℕ) × Agrees known raw
     × (ended : Result (Unit {0}) PlanStop) × (end ≡ end_of_plan ended)
     × PlanEnds p raw before after ended
 
--- so of the engine of `drill`
+-- a run of `drill` on the input `known` turns the output `before` into `after` and ends with `end`
 abbrev pub DrillRuns : Option (List ℕ) → Option (List ℕ) → Option (List ℕ) → End → Type 0
 DrillRuns known before after end = (ended : Result (Unit {0}) DrillStop)
     × (end ≡ end_of_drill ended) × DrillEnds known before after ended
 
--- so of the engine of `feed`, whose machine and batch are those of the words, with its event lines
+-- a run of `feed` with the options `start` on the input `known`: its tries extend `log_before` to
+-- `log_after`, its output `before` to `after`, its event lines `old` to `new`, and it ends with
+-- `end`
 abbrev pub FeedRuns : {E : Type 0} → (E → Option (List ℕ)) → FeedStart → Option (List ℕ)
     → Option (List Try) → Option (List Try) → Option (List ℕ) → Option (List ℕ)
     → EventLog E → EventLog E → End → Type 0
@@ -42,7 +44,7 @@ FeedRuns contents start known log_before log_after before after old new end =
     × FeedEndsWithEvents contents (at_first start.machine start.boot start.batch) known
     log_before log_after before after old new ended
 
--- so of the subcommand that the words ask for, if it uses the streams alone
+-- a run of the given subcommand, which must be `plan` or `drill`
 abbrev pub Runs : Words → Option (List ℕ) → Option (List ℕ) → Option (List ℕ) → End → Type 0
 Runs (Plan max low check) known before after end =
     PlanRuns (product_of max low check) known before after end
@@ -51,7 +53,7 @@ Runs (Serve db port turns) known before after end = ⊥
 Runs (Report db batch) known before after end = ⊥
 Runs (Feed port start) known before after end = ⊥
 
--- the ends at which the whole text was printed
+-- the whole text was printed at this end
 abbrev pub IsPrinted : End → Type 0
 IsPrinted Done = ⊤
 IsPrinted (BadLine line) = ⊤

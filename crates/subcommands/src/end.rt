@@ -1,4 +1,4 @@
-//! How the program ends: what a run came to, its exit status, and its words on standard error.
+//! The ends of a run, with their exit statuses and their words on standard error.
 ghost use Rattle.std.specs.Prelude.{◌≡◌};
 ghost use Rattle.subcommands.specs.Ends.{end_of_account, end_of_drill_stop, end_of_file};
 ghost use Rattle.subcommands.specs.Ends.{end_of_feed_stop, end_of_plan_stop, end_of_serve_stop};
@@ -16,46 +16,46 @@ use server::ServeStop;
 use std::error::Error;
 use std::fmt;
 
-/// What a run came to.
+/// The end of a run.
 #[derive(Clone, Copy, Debug, PartialEq, Eq)]
 pub enum End {
-    /// The subcommand did its work.
+    /// The subcommand succeeded.
     Done,
-    /// The words ask for help or for the version, and it was printed.
+    /// The arguments asked for help or for the version, and it was printed.
     Helped,
-    /// The words are wrong, and `clap` has the text that says how.
+    /// The arguments are wrong. The error text was printed separately.
     Usage,
-    /// One of the words isn't UTF-8.
+    /// An argument isn't UTF-8.
     NotText,
-    /// What should be a batch's or a machine's name isn't a name.
+    /// The value for a batch, a machine or a product isn't a name.
     BadName,
-    /// The batch has this fault first.
+    /// The first fault of the batch file.
     Refused(RowFault),
-    /// The input has over `MOST_INPUT` bytes.
+    /// The input has more than `MOST_INPUT` bytes.
     TooLarge,
-    /// The first line of a script that has none of its forms; a script's first line is 1.
+    /// The number of the first malformed line of a script. The first line has number 1.
     BadLine(u64),
-    /// There is no file that SQLite opens and that has our tables.
+    /// The file can't be opened, isn't an SQLite database, or has another schema.
     NotOurs,
-    /// The file has our tables, and their rows are not those of sound contents.
+    /// The file has the right schema, but its rows don't represent sound contents.
     Damaged,
-    /// There is no report, for this reason.
+    /// The refusal of the report.
     NotReported(Refusal),
-    /// A line of a feed has no form of a card's.
+    /// An input line of `feed` is malformed.
     BadCard,
-    /// A later boot of the machine has released its numbers.
+    /// A later boot of the machine released these request numbers.
     Released,
-    /// The store's file failed, or is full.
+    /// The device with the database file failed, or is full.
     Storage,
-    /// Ten tries in a row brought no reply that changed anything.
+    /// Ten consecutive tries brought no reply that changed anything.
     NoReply,
-    /// The port can't be had, or no connection to it.
+    /// The server can't listen on the port or accept connections, or `feed` can't connect to it.
     PortFailed,
     /// A read failed.
     ReadFailed,
-    /// A write or a flush failed, or a write took nothing.
+    /// A write or a flush failed, or a write accepted no bytes.
     WriteFailed,
-    /// Memory was refused.
+    /// An allocation failed.
     Memory,
 }
 
@@ -151,8 +151,8 @@ impl From<FeedStop> for End {
     }
 }
 
-/// The end of a run whose words give no subcommand, by whether `clap`'s text was written: a usage
-/// fault stays one where standard error takes no text.
+/// Returns the end of a run without a subcommand. `is_written` says whether the text of `fault` was
+/// written. A usage error has the same end if its text couldn't be written. Allocates nothing.
 pub fn end_of_words(fault: &WordsFault, is_written: bool) -> End
     ensures { result ≡ end_of_words fault.now is_written }
 {
@@ -171,24 +171,24 @@ pub fn end_of_words(fault: &WordsFault, is_written: bool) -> End
     }
 }
 
-/// Why a run stopped, as standard error shows it.
+/// The words about the end of a run on standard error.
 #[derive(Clone, Copy, Debug, PartialEq, Eq)]
 pub enum ErrorLine {
-    /// A refusal by its number.
+    /// A refusal with its number.
     Refused { number: u16 },
-    /// A refusal by its number, and the row that it is printed with.
+    /// A refusal with its number, and the row of the batch file.
     RefusedRow { number: u16, row: u32 },
-    /// The first line of a script that has none of its forms.
+    /// The number of the first malformed line of a script.
     BadLine { line: u64 },
     /// An argument isn't UTF-8.
     NotText,
-    /// What should be a name isn't a name.
+    /// The value for a batch, a machine or a product isn't a name.
     BadName,
-    /// The store's file failed, or is full.
+    /// The device with the database file failed, or is full.
     Storage,
-    /// A read or a write failed, or the port can't be had.
+    /// A read or a write failed, or the port can't be used.
     Device,
-    /// Memory was refused.
+    /// An allocation failed.
     Memory,
 }
 
@@ -214,16 +214,16 @@ impl fmt::Display for ErrorLine {
 
 impl Error for ErrorLine {}
 
-/// The status of the program, and its words for standard error.
+/// The exit status of the program, and its words for standard error.
 #[derive(Clone, Copy, Debug, PartialEq, Eq)]
 pub struct Exit {
-    /// 0 done, 1 refused, 2 wrong arguments, 3 storage, device or memory.
+    /// 0: done; 1: refused; 2: wrong arguments; 3: storage, device or memory.
     pub status: u8,
-    /// The words, as they are displayed. Where `clap` has a text there are none beside it.
+    /// The words, or `None` at a successful end or if `clap`'s text was printed.
     pub words: Option<ErrorLine>,
 }
 
-/// The status and the words that an end has (this project's profile).
+/// Returns the exit status and the words of `end` (this project's profile). Allocates nothing.
 pub fn exit_of(end: End) -> Exit
     ensures { result ≡ exit_of end }
 {

@@ -1,4 +1,4 @@
-//! What joins the program's words to its streams and its file, and the file to its end.
+//! Connects the arguments of `persod` with its streams, its database file and its event lines.
 ghost use Rattle.std.specs.Prelude.{◌≡◌, ◌++◌, IfOk, option_map};
 ghost use Rattle.event_lines.specs.Notes.{NotesAll};
 ghost use Rattle.event_lines.specs.Views.{text_of};
@@ -15,8 +15,8 @@ use std::env::VarError;
 use std::io::Write;
 use text_io::{WriteFailed, write_text};
 
-/// Which event lines are written, by what the environment's variable is found to be. A value that
-/// isn't UTF-8 asks for the usual ones. Where memory is refused, none are written.
+/// Returns the level of event lines for `variable`, the value of `PERSOD_LOG`. A value that isn't
+/// UTF-8 means the usual lines. If an allocation failed, no lines are written.
 pub fn level_by(variable: &Result<String, VarError>) -> Level
     ensures { result ≡ level_by variable.now }
 {
@@ -28,7 +28,7 @@ pub fn level_by(variable: &Result<String, VarError>) -> Level
     }
 }
 
-/// Which file a subcommand takes: `serve` makes a new one where there is none, and no other does.
+/// Returns which database files a subcommand opens: only `serve` creates a file that doesn't exist.
 pub fn wanted_of(words: &Words) -> Wanted
     ensures { result ≡ wanted_of words.now }
 {
@@ -40,9 +40,12 @@ pub fn wanted_of(words: &Words) -> Wanted
     }
 }
 
-/// Prints `clap`'s text on words that give no subcommand: help and the version to the output, and
-/// what is wrong with the words to the errors. Of the other faults `exit_of` has the words. Where
-/// the writer fails, a beginning of the text was written.
+/// Prints the text of `fault`: help and the version to `output`, and a usage error to `errors`. The
+/// other faults have no text here; `exit_of` has their words.
+///
+/// # Errors
+///
+/// Returns `WriteFailed` if a write fails. A prefix of the text was written then.
 pub fn explain<O: Write, E: Write>(
     fault: &WordsFault,
     output: &mut O,
@@ -58,8 +61,7 @@ pub fn explain<O: Write, E: Write>(
     }
 }
 
-/// The end of what was done over a store, by how the store was closed: where it can't be closed,
-/// the fault of that.
+/// Returns the end of a run over a store that was then closed: `end`, or the fault of the close.
 pub fn end_of_close(end: End, closed: Result<(), StoreFault>) -> End
     ensures { result ≡ end_of_close end closed }
 {
@@ -69,8 +71,9 @@ pub fn end_of_close(end: End, closed: Result<(), StoreFault>) -> End
     }
 }
 
-/// Writes the event line of a file that is refused: the refusal's code, the cause, the commits or
-/// the table that it names, and the file's path. Of a fault of the device or of memory nothing is written.
+/// Writes the event line of a refused database file: the code of the refusal, the cause, the number
+/// of commits or the table that the cause names, and the path. A fault of the device or of memory
+/// has no line.
 pub fn note_refusal<E: Write + Drop>(
     alloc: Global,
     fault: &FileFault,
@@ -111,7 +114,7 @@ fn refusal_line(
     with_table(with_commits(line, commits)?, table)?.quoted("db", path)
 }
 
-// With the number of commits, if there is one.
+// Adds the number of commits, if there is one.
 fn with_commits(line: EventLine, commits: Option<u64>) -> Result<EventLine, AllocError>
     ensures { IfOk result (λ more. text_of more ≡ text_of line ++ commits_pair commits) }
 {
@@ -121,7 +124,7 @@ fn with_commits(line: EventLine, commits: Option<u64>) -> Result<EventLine, Allo
     }
 }
 
-// With the table, if there is one.
+// Adds the table, if there is one.
 fn with_table(line: EventLine, table: Option<&[u8]>) -> Result<EventLine, AllocError>
     ensures { IfOk result (λ more. text_of more
         ≡ text_of line ++ table_pair (option_map (λ name. name.now) table.entry)) }

@@ -1,4 +1,4 @@
-//! A run of a subcommand, from its words to its end.
+//! Runs `plan`, `drill` and `feed` over readers and writers.
 ghost use Rattle.std.specs.Prelude.{◌≡◌, ◌⊎◌, []};
 ghost use Rattle.std.specs.Io.Buffered.{writer_buffer, writer_contents};
 ghost use Rattle.std.specs.Io.KnownBytes.{Keeps};
@@ -19,8 +19,9 @@ use std::alloc::Global;
 use std::io::{BufWriter, Read, Write};
 use store_data::{Name, Product};
 
-/// Does what the words ask for, `plan` or `drill`, from the reader to the writer behind the buffer,
-/// which holds nothing where the whole text was printed. A flush that fails is a failed write.
+/// Runs `words`, which must be `plan` or `drill`, from `reader` to `writer`. If the whole text was
+/// printed, it also flushes `writer`. A failed flush counts as a failed write: only a test shows
+/// this.
 pub fn run<R: Read, W: Write + Drop>(
     alloc: Global,
     words: Words,
@@ -42,7 +43,7 @@ pub fn run<R: Read, W: Write + Drop>(
     }
 }
 
-/// The product that the values of `plan` stand for.
+/// Returns the product with the options of `plan`. Its name is `plan`. Allocates nothing.
 pub fn product_of(max: u8, low: u8, check: bool) -> Product
     ensures { result ≡ product_of max low check }
 {
@@ -54,9 +55,8 @@ pub fn product_of(max: u8, low: u8, check: bool) -> Product
     }
 }
 
-/// Feeds the machine of a start with the reader's cards for its batch, over the exchange, prints
-/// what each card comes to, and writes event lines. What is printed is written as it comes, and
-/// left to the caller to flush.
+/// Personalises the cards of `reader` as the machine of `start`, over `exchange`. Prints the result
+/// of each card to `writer` as soon as it is known, without a flush, and writes event lines.
 pub fn run_feed<R: Read, W: Write, X: Exchange, E: Write + Drop>(
     alloc: Global,
     start: FeedStart,
@@ -85,7 +85,7 @@ pub fn run_feed<R: Read, W: Write, X: Exchange, E: Write + Drop>(
     }
 }
 
-// Prints the commands of a batch.
+// Runs `plan`.
 fn run_plan<R: Read, W: Write + Drop>(
     alloc: Global,
     product: &Product,
@@ -103,7 +103,7 @@ fn run_plan<R: Read, W: Write + Drop>(
     }
 }
 
-// Serves a script, and prints its replies.
+// Runs `drill`.
 fn run_drill<R: Read, W: Write + Drop>(
     alloc: Global,
     reader: &mut R,
@@ -120,7 +120,7 @@ fn run_drill<R: Read, W: Write + Drop>(
     }
 }
 
-// The end where the buffer goes out.
+// Flushes `writer`, and returns `end` if that succeeds.
 fn flushed<W: Write + Drop>(writer: &mut BufWriter<W>, end: End) -> End
     ensures keeps { Keeps (writer_contents W.contents writer.old)
         (writer_contents W.contents writer.new) }

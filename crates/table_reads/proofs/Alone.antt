@@ -1,4 +1,4 @@
--- The one row of `version`, as it is shown and as it is stored.
+-- The only row of `version`, as a query returns it and as it is stored.
 use Rattle.std.proofs.Common.{◌≡◌, ◌↔◌, ◌<◌, IsTrue, Bool, ℕ, zero, suc, true, List, [], ◌∷◌, map, length, All, slice_index_or, refl, sym, ap, ap₂, subst, ◌∙◌, arith}
 use Rattle.std.specs.List.Sorted.{IsPermutation}
 use Rattle.std.proofs.lemmas.List.Sorted.{All-permutation, IsPermutation-sym, IsPermutation-trans, length_permutation}

@@ -1,4 +1,4 @@
--- What replies that are read without their bytes are of those that are stored.
+-- The relation between replies that are read without their bytes and the stored replies.
 use Rattle.std.proofs.Common.{◌≡◌, ◌∙◌, ℕ, zero, suc, codes, Bool, true, false, not, None, List, [], ◌∷◌, map, drop, length, slice_index_or, slice_set, All, refl, sym, ap, ap₂, subst}
 use Rattle.std.specs.List.{AllByRecursion, swap}
 use Rattle.std.specs.List.Sorted.{IsPermutation, SwapsInRange, apply_swaps}
@@ -28,7 +28,7 @@ use Rattle.table_reads.proofs.BriefText.{brief_columns}
 use Rattle.table_reads.proofs.ReadRows.{each_keeps, from_all, shaped, to_all}
 use Rattle.table_reads.proofs.Shapes.{filled, spread}
 
--- ---- rows in the order in which they are shown
+-- ---- rows in the order in which the query returns them
 
 module _ {A B : Type 0} (f : A → B) where
   index_map : (xs : List A) (k : ℕ) (d : A) → f (slice_index_or xs k d) ≡ slice_index_or (map f xs) k (f d)
@@ -55,7 +55,7 @@ module _ {A B : Type 0} (f : A → B) where
   long [] = refl
   long (x ∷ xs) = ap suc (long xs)
 
-  -- those behind rows that are shown in another order
+  -- the elements that `f` maps to a permutation `ys`
   pub record Behind (xs : List A) (ys : List B) : Type 0 where
     pub all : List A
     pub same : IsPermutation xs all
@@ -86,7 +86,7 @@ columns = (reply_at 0).columns
 abbrev Keeps : Row → Type 0
 Keeps r = (are_typed None 0 columns (drop 1 r) ≡ true) × (are_present None 0 columns r ≡ true)
 
--- a stored reply is one with its bytes, where what is shown of it is one without
+-- A stored row is the encoding of a reply if the query returns a reply without bytes for it.
 entry_whole : (r : Row) → Keeps r → IsBriefRow (brief r) → reply_row (reply_of (drop 1 r)) ≡ drop 1 r
 unfolding IsBriefRow
 entry_whole r keeps is =
@@ -101,7 +101,7 @@ brief_back : (r : Row) → brief_of (brief r) ≡ without_bytes (reply_of (drop 
 brief_back [] = refl
 brief_back (x ∷ r) = refl
 
--- a row that stands as a reply is shown as one
+-- The query returns a reply without bytes for a row that encodes a reply.
 brief_law : (e : Entry) → IsAny e → (r : Row) → drop 1 r ≡ reply_row e → IsBriefRow (brief r)
 unfolding IsBriefRow
 brief_law e any [] is = absurd (cc)

@@ -1,4 +1,4 @@
--- What the text that asks for replies without their bytes means, at any schema in which the table is
+-- The meaning of the query for replies without their bytes, in any schema in which the table is
 -- found.
 use Rattle.std.proofs.Common.{◌≡◌, ℕ, true, List, [], ◌∷◌, codes, ◌^◌, Some, None, refl}
 use Rattle.sqlite.specs.Schema.{Schema}
@@ -22,7 +22,7 @@ use Rattle.table_reads.specs.Whole.{Asks, with_rowid}
 use Rattle.table_reads.proofs.Selecting.{asks, column_shown, item, read_from, rowid_and_three_are, rowid_shown, select_of}
 use Rattle.table_reads.proofs.WholeTables.{below, is_said, rowid_name, said}
 
--- the client, the number and the status
+-- the columns `client`, `number` and `status`
 abbrev pub brief_columns : List Term
 brief_columns = col 1 1 ∷ col 1 2 ∷ col 1 4 ∷ []
 

@@ -1,4 +1,4 @@
--- From an error's cause in one of several calls to its cause in all of them.
+-- The cause of an error in one of several calls is also its cause in all of them together.
 use Rattle.std.proofs.Common.{◌≡◌, ◌≤◌, Err, IfErr, Ok, Result, arith, false, subst, sym}
 use Rattle.std.specs.Result.{IsErrAnd}
 use Rattle.std.proofs.lemmas.Bool.{both_ways}
@@ -9,7 +9,7 @@ use Rattle.sqlite.specs.declared.error.Error.{Error}
 use Rattle.sql_base.specs.Causes.{HadCause}
 use Rattle.sql_base.proofs.Causing.{reports_since}
 
--- what the exit of a `?` returns
+-- the result if `?` returns early with an error
 exits : {X : Type 0} (P : Error → Type 0) (e : Error) (r : Result X Error) → IsErrAnd r (λ y. y ≡ e) → P e → IfErr r P
 exits P e (Ok x) is has = tt
 exits P e (Err y) is has = subst P (sym is) has
@@ -21,17 +21,17 @@ module _ {S : Type 0} (g : Ghosts S) where
       let failed : Result ⊥ Error = Err e in
       (had.0, reports_since a b (state g had.0) failed up had.1, had.2)
 
-  -- an error that isn't the disk's needs none
+  -- An error that isn't a disk error needs no cause.
   pub plain_had : (old : State) (new : Held S) (e : Error) → is_disk_error e ≡ false → HadCause g old (state g new) e
   plain_had old new e plain = (new, (λ is. absurd (both_ways _ plain is)), omega arith)
 
   module _ (a b c : State) (up : a.faults ≤ b.faults) where
-    -- what the last call reports
+    -- the result of the last call
     pub reports_had : {X : Type 0} (r : Result X Error) → IfErr r (HadCause g b c) → IfErr r (HadCause g a c)
     reports_had (Ok x) had = tt
     reports_had (Err e) had = had_since a b c up e had
 
-    -- what a `?` after it returns
+    -- the result of a `?` after the last call
     pub passed_had : {X : Type 0} (r : Result X Error) (e : Error) → IsErrAnd r (λ y. y ≡ e) → HadCause g b c e → IfErr r (HadCause g a c)
     passed_had r e is had = exits (HadCause g a c) e r is (had_since a b c up e had)
 

@@ -1,4 +1,4 @@
--- Our tables are found in our own schema.
+-- The tables of the current schema are found in that schema.
 use Rattle.std.proofs.Common.{refl}
 use Rattle.std.specs.List.{AllByRecursion}
 use Rattle.sqlite_schema.specs.Names.{same_name}

@@ -1,4 +1,4 @@
--- What each text asks for, at any schema in which the table is found.
+-- The meaning of each query, in any schema in which its table is found.
 use Rattle.std.proofs.Common.{ℕ, true, false, refl}
 use Rattle.sqlite_tied.specs.Compute.{everything}
 use Rattle.sql_tables.specs.Versions.{numbered_version_at, unmixed_grouping_at}

@@ -1,4 +1,4 @@
--- A database holds the rows of one image alone, in any order.
+-- A database holds the rows of only one image, in any order.
 use Rattle.std.proofs.Common.{◌≡◌, ℕ, Bool, true, false, List, [], map, refl, sym, subst}
 use Rattle.std.specs.List.Sorted.{IsPermutation}
 use Rattle.std.proofs.lemmas.List.Sorted.{IsPermutation-refl}
@@ -17,7 +17,7 @@ use Rattle.sql_tables.specs.declared.versions.Version.TheVariants.{One, Two, Thr
 use Rattle.table_reads.specs.Holding.{Holds, HoldsMarks, HoldsRows, groupings_at}
 use Rattle.table_reads.proofs.OneVersion.{IsNumbered, one_number, one_version}
 
--- a table holds one list of typed rows, in any order
+-- A table holds only one list of typed rows, in any order.
 one_list : {X : Type 0} (table : ℕ → Table) (by_rowid : Bool) (encode : X → Row) (decode : Row → X) → IsNumbered table → ((x : X) → decode (encode x) ≡ x)
     → (db : Database) (xs ys : List X) → Holds table by_rowid (map encode xs) db → Holds table by_rowid (map encode ys) db → IsPermutation xs ys
 one_list table by_rowid encode decode is back db xs ys one two =

@@ -1,4 +1,4 @@
--- A table stands under one number, and a database has the tables of one version.
+-- A table has only one tree number, and a database has the tables of only one version.
 use Rattle.std.proofs.Common.{◌≡◌, ◌<◌, ◌∙◌, ℕ, zero, suc, true, pos, drop, List, [], ◌∷◌, Option, Some, None, slice_index_or, refl, sym, ap, subst, arith}
 use Rattle.std.specs.Prelude.{find}
 use Rattle.std.specs.List.Sorted.{IsPermutation}
@@ -23,16 +23,16 @@ use Rattle.table_reads.specs.Version.{numbered_row}
 use Rattle.table_reads.specs.Holding.{SaysVersion, number_of}
 use Rattle.table_reads.proofs.Found.{all_found}
 
--- the number of the table that was found
+-- the tree number of the table that was found
 abbrev tree_in : Option Table → ℕ
 tree_in None = 0
 tree_in (Some t) = t.tree
 
--- two tables of one name that are found have one number
+-- Two tables that are found and have the same name have the same tree number.
 one_tree : (s : Schema) (t u : Table) → t.name ≡ u.name → Finds s t → Finds s u → t.tree ≡ u.tree
 one_tree s t u named one two = ap tree_in (sym one.named ∙ ap (λ name. find (λ x. same_name x.name name) s.tables) named ∙ two.named)
 
--- whatever its number is, the table has one name
+-- The table has the same name under any tree number.
 pub record IsNumbered (table : ℕ → Table) : Type 0 where
   pub named : (n m : ℕ) → (table n).name ≡ (table m).name
   pub numbered : (n : ℕ) → (table n).tree ≡ n
@@ -71,12 +71,12 @@ numbered_alike Three Three e = refl
 pub one_version : (v w : Version) (db : Database) → SaysVersion v db → SaysVersion w db → v ≡ w
 one_version v w db one two = numbered_alike v w (one_version_number v w db one two)
 
--- the check that names the number
+-- the check with the version number
 abbrev number_named : Option Table → List Term
 number_named None = []
 number_named (Some t) = drop 1 t.checks
 
--- in our own schema the version is that of our own tables
+-- In the current schema, the version is version 3.
 pub ours_alone : (v : Version) (db : Database) → SaysVersion v db → db.schema ≡ our_schema → v ≡ Three
 ours_alone v db says ours = numbered_alike v Three (at (number_of v) says.number (subst (λ s. Finds s (numbered_version_at (number_of v) says.number)) ours says.finds))
   where

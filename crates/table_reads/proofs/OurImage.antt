@@ -1,4 +1,4 @@
--- In our own schema: the rows that a database holds, and its image.
+-- In the current schema: the rows that a database holds, and its image.
 use Rattle.std.proofs.Common.{◌≡◌, ◌==◌, ◌<◌, ℕ, zero, suc, Bool, true, false, List, [], ◌∷◌, length, slice_index_or, refl, sym, subst, arith}
 use Rattle.std.specs.List.{AllByRecursion}
 use Rattle.std.specs.List.Sorted.{IsPermutation}
@@ -22,7 +22,7 @@ use Rattle.table_reads.proofs.ReadRows.{to_all}
 use Rattle.table_reads.specs.Holding.{Holds, HoldsRows}
 use Rattle.table_reads.proofs.OneVersion.{IsNumbered, one_number, ours_alone}
 
--- ---- what is held fills our tables
+-- ---- rows that are held fill the tables
 
 filled_at : (table : ℕ → Table) (by_rowid : Bool) (rows : List Row) (db : Database) (k : ℕ) → IsNumbered table → db.schema ≡ our_schema → Finds our_schema (table k)
     → AreApart (db.trees (table k).tree) → Holds table by_rowid rows db → IsFilled (record { table = table k; by_rowid = by_rowid; rows = rows }) db.trees
@@ -38,20 +38,20 @@ our_image t db held sound ours apart = record {
   each = (filled_at (numbered_version_at 3) true _ db 0 (record { named = λ n m. refl; numbered = λ n. refl }) ours all_found.0 apart.0 held.version, (filled_at product_at false _ db 1 (record { named = λ n m. refl; numbered = λ n. refl }) ours all_found.1.0 apart.1.0 held.products, (filled_at lot_at false _ db 3 (record { named = λ n m. refl; numbered = λ n. refl }) ours all_found.1.1.0 apart.1.1.0 held.lots, (filled_at batch_at true _ db 5 (record { named = λ n m. refl; numbered = λ n. refl }) ours all_found.1.1.1.0 apart.1.1.1.0 held.batches, (filled_at record_at false _ db 7 (record { named = λ n m. refl; numbered = λ n. refl }) ours all_found.1.1.1.1.0 apart.1.1.1.1.0 held.records, (filled_at grouping_at false _ db 10 (record { named = λ n m. refl; numbered = λ n. refl }) ours all_found.1.1.1.1.1.0 apart.1.1.1.1.1.0 held.groupings, (filled_at session_at true _ db 12 (record { named = λ n m. refl; numbered = λ n. refl }) ours all_found.1.1.1.1.1.1.0 apart.1.1.1.1.1.1.0 held.sessions, (filled_at word_at false _ db 14 (record { named = λ n m. refl; numbered = λ n. refl }) ours all_found.1.1.1.1.1.1.1.0 apart.1.1.1.1.1.1.1.0 held.words, (filled_at blank_at true _ db 16 (record { named = λ n m. refl; numbered = λ n. refl }) ours all_found.1.1.1.1.1.1.1.1.0 apart.1.1.1.1.1.1.1.1.0 held.blanks, (filled_at remake_at false _ db 17 (record { named = λ n m. refl; numbered = λ n. refl }) ours all_found.1.1.1.1.1.1.1.1.1.0 apart.1.1.1.1.1.1.1.1.1.0 held.remakes, (filled_at reply_at false _ db 19 (record { named = λ n m. refl; numbered = λ n. refl }) ours all_found.1.1.1.1.1.1.1.1.1.1.0 apart.1.1.1.1.1.1.1.1.1.1.0 held.replies, (filled_at mark_at false _ db 21 (record { named = λ n m. refl; numbered = λ n. refl }) ours all_found.1.1.1.1.1.1.1.1.1.1.1.0 apart.1.1.1.1.1.1.1.1.1.1.1.0 held.marks, tt))))))))))));
 }
 
--- of whatever version the rows are held, it is that of our own tables
+-- If the rows are held in the tables of any version, it is version 3.
 pub held_image : (v : Version) (t : Tables) (db : Database) → HoldsRows v t db → IsDatabase db → StandAsMade db → IsImage t db
 held_image v t db held sound stand = our_image t db (subst (λ w. HoldsRows w t db) (ours_alone v db held.version stand.0) held) sound stand.0 stand.1
 
 pub image_stands : (t : Tables) (db : Database) → IsImage t db → StandAsMade db
 image_stands t db image = let each = image.each in (image.ours, (each.0.apart, (each.1.0.apart, (each.1.1.0.apart, (each.1.1.1.0.apart, (each.1.1.1.1.0.apart, (each.1.1.1.1.1.0.apart, (each.1.1.1.1.1.1.0.apart, (each.1.1.1.1.1.1.1.0.apart, (each.1.1.1.1.1.1.1.1.0.apart, (each.1.1.1.1.1.1.1.1.1.0.apart, (each.1.1.1.1.1.1.1.1.1.1.0.apart, (each.1.1.1.1.1.1.1.1.1.1.1.0.apart, tt)))))))))))))
 
--- ---- what fills them is held
+-- ---- rows that fill the tables are held
 
 held_at : (table : ℕ → Table) (by_rowid : Bool) (rows : List Row) (db : Database) (k : ℕ) → db.schema ≡ our_schema → Finds our_schema (table k)
     → IsPermutation rows (given_rows by_rowid (db.trees k)) → Holds table by_rowid rows db
 held_at table by_rowid rows db k ours found there = record { number = k; finds = subst (λ s. Finds s (table k)) (sym ours) found; rows_are = there }
 
--- an element is that of its place, whatever is given where there is none
+-- The element at a valid index doesn't depend on the default.
 itself : {X : Type 0} (xs : List X) (k : ℕ) (d : X) → k < length xs → slice_index_or xs k (slice_index_or xs k d) ≡ slice_index_or xs k d
 itself [] k d low = absurd (omega arith)
 itself (x ∷ xs) zero d low = refl

@@ -1,4 +1,4 @@
--- What the rows of a whole table give of those that are stored.
+-- The relation between the rows that a query of a whole table returns and the stored rows.
 use Rattle.std.proofs.Common.{◌≡◌, ◌++◌, ℕ, zero, suc, Bool, true, false, List, [], ◌∷◌, map, All, refl, sym, ap, ap₂, subst, ◌∙◌, arith}
 use Rattle.std.specs.List.{AllByRecursion}
 use Rattle.std.specs.List.Sorted.{IsPermutation}
@@ -16,7 +16,7 @@ use Rattle.sql_rows.specs.Image.{given_rows}
 use Rattle.table_reads.specs.Whole.{AreShown, IsWhole, NoneStandSo, as_stored, columns_of, stored_row, with_rowid}
 use Rattle.sql_tables.proofs.Lookups.{all_at, is_at}
 
--- ---- the rows of a text that asks for a table whole
+-- ---- the rows of a query for a whole table
 
 given_is : (by_rowid : Bool) (rows : List Row) → map (stored_row by_rowid) rows ≡ given_rows by_rowid rows
 given_is false rows = refl
@@ -28,7 +28,7 @@ each_shown : (show : Row → Row) (by_rowid : Bool) (P Q : Row → Type 0) → (
 each_shown show by_rowid P Q shows [] ps qs = refl
 each_shown show by_rowid P Q shows (r ∷ rows) ps qs = ap₂ ◌∷◌ (shows r ps.0 qs.0) (each_shown show by_rowid P Q shows rows ps.1 qs.1)
 
--- what holds of each row of a table that is found
+-- a constraint that is true of every row of a table that is found
 pub each_keeps : (c : Constraint) (db : Database) → IsDatabase db → (table : ℕ → Table) (tree : ℕ) → (table tree).tree ≡ tree → Finds db.schema (table tree) → AllByRecursion (λ r. keeps c db.schema db.trees (table tree) r ≡ true) (db.trees tree)
 each_keeps c db sound table tree numbered f =
     let s = db.schema in
@@ -68,7 +68,7 @@ each_behind : (f : Row → Row) (P : Row → Type 0) (rows : List Row) → AllBy
 each_behind f P [] all = tt
 each_behind f P (r ∷ rows) all = (all.0 r refl, each_behind f P rows all.1)
 
--- rows that stand as those that are given are rows of the table's shape
+-- If the stored rows encode typed rows in range, the rows of the query have the shape of the table.
 pub shaped : {X : Type 0} (encode : X → Row) (fits : X → Type 0) (f : Row → Row) (IsShaped : Row → Type 0) → ((x : X) → fits x → (r : Row) → f r ≡ encode x → IsShaped r) → (rows : List Row) (stored : List Row)
     → IsPermutation (map f rows) stored → (xs : List X) → All fits xs → IsPermutation (map encode xs) stored → All IsShaped rows
 shaped encode fits f IsShaped law rows stored is xs all same =

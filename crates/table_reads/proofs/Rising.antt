@@ -1,4 +1,4 @@
--- Shown rowids that are sorted rise just where those of the table are apart.
+-- The sorted rowids of a query ascend if and only if all rowids of the table are different.
 use Rattle.std.proofs.Common.{◌≡◌, ◌↔◌, ◌+◌, ◌≤◌, ◌<ℤ◌, IsTrue, suc, ℕ, ℤ, Bool, true, false, List, [], ◌∷◌, map, filter, length, slice_index_or, Ordering, Equal, Less, Greater, inl, inr, refl, sym, ap, subst, ◌∙◌, arith}
 use Rattle.std.specs.List.{AllByRecursion}
 use Rattle.std.specs.List.Sorted.{IsPermutation, IsSortedByKey}
@@ -24,7 +24,7 @@ use Rattle.table_reads.specs.Rowids.{AreRising, IsRisingFrom, int_in, rowid_int}
 use Rattle.table_reads.specs.Whole.{AreShown, Asks, columns_of, with_rowid}
 use Rattle.table_reads.proofs.ReadRows.{from_all, to_all}
 
--- ---- the shown rows
+-- ---- the rows of the query
 
 above : (floor : ℤ) (rows : List Row) → IsRisingFrom floor rows → AllByRecursion (λ r. (Int (rowid_int r) ≡ rowid r) × (floor <ℤ rowid_int r)) rows
 above floor [] rising = tt
@@ -63,7 +63,7 @@ all_ints : (rows : List Row) → AreRising rows → AllByRecursion (λ r. IsTrue
 all_ints [] rising = tt
 all_ints (r ∷ rows) rising = (an_int r rising.0, ints_from (rowid_int r) rows rising.1)
 
--- ---- sorted rows whose rowids are apart
+-- ---- sorted rows with different rowids
 
 int_back : (v : Value) → IsTrue (is_int v) → Int (int_in v) ≡ v
 int_back Null is = absurd (cc)
@@ -99,7 +99,7 @@ all_rising : (rows : List Row) → AllByRecursion (λ x. IsTrue (is_int (rowid x
 all_rising [] ints apart sorted = tt
 all_rising (r ∷ rows) ints apart sorted = let it = int_back (rowid r) ints.0 in (it, rising_from r rows it ints.1 apart sorted)
 
--- ---- the table's rows
+-- ---- the rows of the table
 
 abbrev has : Value → Row → Bool
 has id r = is_eq (value_cmp (rowid r) id)
@@ -142,7 +142,7 @@ lengths : (f : Row → Row) (xs : List Row) → length (map f xs) ≡ length xs
 lengths f [] = refl
 lengths f (x ∷ xs) = ap suc (lengths f xs)
 
--- rows that are shown with their rowids, and with these columns beside them
+-- rows that a query returns with their rowids and the columns `columns`
 module _ (columns : List Term) where
   abbrev shows : Row → Row
   shows = columns_of (with_rowid columns)
@@ -156,7 +156,7 @@ module _ (columns : List Term) where
   ahead (r ∷ rows) all = (all.0, ahead rows all.1)
 
   module _ (stored rows : List Row) (same : IsPermutation (map shows stored) rows) where
-    -- as many rows of the table have a rowid as are shown with it
+    -- The number of rows with a rowid is the same in the table and in the result of the query.
     as_many : (id : Value) → length (filter (has id) rows) ≡ length (filter (has id) stored)
     as_many id =
         let one : length (filter (has id) (map shows stored)) ≡ length (filter (has id) rows) = sym (length_permutation _ _ (IsPermutation-filter (has id) _ _ same)) in
@@ -175,7 +175,7 @@ module _ (columns : List Term) where
         (apart_if rows (λ id. subst (λ n. n ≤ 1) (sym (as_many id)) (few_apart (has id) id (λ r h. equal_if r id h) stored apart.apart)))
         sorted
 
--- what a text that asks for rowids, and for columns beside them, shows, sorted
+-- the sorted result of a query for rowids and other columns
 pub sorted_shown : (sql : _) (old new : State) (rows sorted : List Row) → Shown sql [] old new rows → IsPermutation rows sorted → IsSortedByKey rowid_int int_cmp sorted → (apart : Bool) → IsTrue apart ↔ AreRising sorted
     → (tree : ℕ) (columns : List Term) → Asks old.now.schema sql tree (with_rowid columns) → AreShown (with_rowid columns) (old.now.trees tree) sorted apart
 sorted_shown sql old new rows sorted h same rise apart is tree columns asks =

@@ -1,4 +1,4 @@
--- What was read of all tables is the rows of the version.
+-- The rows that were read from all tables are the rows of the version.
 use Rattle.std.proofs.Common.{◌≡◌, ◌↔◌, ◌&&◌, ℕ, Bool, true, false, List, [], ◌∷◌, map, Option, Some, None, MatchOption, Vec, Global, IsTrue, refl, sym, ap, subst, arith}
 use Rattle.std.specs.List.{AllByRecursion}
 use Rattle.std.specs.List.Sorted.{IsPermutation}
@@ -40,7 +40,7 @@ at : (table : ℕ → Table) (by_rowid : Bool) (rows : List Row) (db : Database)
 at table by_rowid rows db n finds has = record { number = n; finds = finds; rows_are = has n finds }
 
 module _ (v : Version) (db : Database) (held : HeldRows) (most : HasMost v db held) (replies : List Entry) (of_replies : Holds reply_at false (map reply_row replies) db) where
-  -- under the numbers at which the tables stand
+  -- under the tree numbers of the tables
   rows_numbered : {p l b r s w k m : ℕ} → HasJust db.schema (schema_of v) → SaysVersion v db
       → Stands db.schema (product_at p) → Stands db.schema (lot_at l) → Stands db.schema (batch_at b) → Stands db.schema (record_at r) → Stands db.schema (session_at s) → Stands db.schema (word_at w)
       → Stands db.schema (blank_at k) → Stands db.schema (remake_at m)
@@ -72,7 +72,7 @@ rows_held Three db held most replies of_replies just there says =
     rows_numbered Three db held most replies of_replies just says there.1.0 there.1.1.0 there.1.1.1.0 there.1.1.1.1.0 there.1.1.1.1.1.1.0 there.1.1.1.1.1.1.1.0 there.1.1.1.1.1.1.1.1.0 there.1.1.1.1.1.1.1.1.1.0
     (at grouping_at false _ db there.1.1.1.1.1.0.number there.1.1.1.1.1.0.finds most.groupings) (at mark_at false _ db there.1.1.1.1.1.1.1.1.1.1.1.0.number there.1.1.1.1.1.1.1.1.1.1.1.0.finds most.marks)
 
--- the table of replies stands there
+-- The database has the table `reply`.
 record IsThere (db : Database) : Type 0 where
   number : ℕ
   finds : Finds db.schema (reply_at number)
@@ -82,7 +82,7 @@ replies_there One db there = let it = there.1.1.1.1.1.1.1.1.0 in record { number
 replies_there Two db there = let it = there.1.1.1.1.1.1.1.1.0 in record { number = it.number; finds = it.finds }
 replies_there Three db there = let it = there.1.1.1.1.1.1.1.1.1.1.0 in record { number = it.number; finds = it.finds }
 
--- with their replies
+-- all rows, with the replies
 pub all_held : (v : Version) (db : Database) (held : HeldRows) → HasMost v db held → (replies : List Entry) → Has reply_at false (map reply_row replies) db → HasRows v db (record held.tables { replies = replies })
 all_held v db held most replies has just there says = let it = replies_there v db there in rows_held v db held most replies (at reply_at false _ db it.number it.finds has) just there says
 
@@ -91,7 +91,7 @@ all_held v db held most replies has just there says = let it = replies_there v d
 and_more : (x y : Bool) (A B : Type 0) → IsTrue x ↔ A → IsTrue y ↔ B → IsTrue (x && y) ↔ (A × B)
 and_more x y A B one two = ((λ h. (one.0 (first_of_both x y h), two.0 (second_of_both x y h))), (λ both. let e = one.1 both.0 in let f = two.1 both.1 in rw (e, f) refl))
 
--- one row is apart from others
+-- The rowid of a single row is different from all others.
 single_is : (row : Row) (rows : List Row) → IsPermutation (row ∷ []) rows → rows ≡ row ∷ []
 single_is row [] same = absurd (let e = length_permutation _ _ same in cc)
 single_is row (x ∷ []) same = ap (λ r. r ∷ []) (sym (one_row row x same))
@@ -103,7 +103,7 @@ version_apart db ours says =
     let there = subst (λ n. IsPermutation (numbered_row 3 ∷ []) (db.trees n)) e says.rows_are in
     subst AreApart (sym (single_is (numbered_row 3) (db.trees 0) there)) (record { apart = (tt, tt); ints = (refl, tt) })
 
--- all but the bytes of replies
+-- all rows, without the bytes of replies
 pub for_audit : (v : Version) (db : Database) (held : HeldRows) → HasMost v db held → (replies : TableRows Entry)
     → ((tree : ℕ) → Finds db.schema (reply_at tree) → StandWithoutBytes replies.rows.items (given_rows false (db.trees tree)) × (IsTrue replies.apart ↔ AreApart (db.trees tree)))
     → HasForAudit v db (record { tables = record held.tables { replies = replies.rows.items }; apart = held.apart && replies.apart })
@@ -126,7 +126,7 @@ for_audit v db held most replies brief just there says =
           );
     }
 
--- what is read of replies without their bytes
+-- the result of reading replies without their bytes
 abbrev pub BriefRead : Database → Option (TableRows Entry) → Type 0
 BriefRead db found =
     (tree : ℕ) → Finds db.schema (reply_at tree) → MatchOption found (NoneStandSo reply_row IsAny (given_rows false (db.trees tree))) (λ all. StandWithoutBytes all.rows.items (given_rows false (db.trees tree)) × (IsTrue all.apart ↔ AreApart (db.trees tree)))
@@ -134,7 +134,7 @@ BriefRead db found =
 pub none_brief : (v : Version) (db : Database) (found : Option (TableRows Entry)) → found ≡ None → BriefRead db found → HoldsNoneOf v db
 none_brief v db found none read = λ t fit held. subst (BriefRead db) none read held.replies.number held.replies.finds t.replies (λ k d low. tt) held.replies.rows_are
 
--- as they are put together
+-- the rows as the function puts them together
 pub put_together : (v : Version) (db : Database) (held : HeldRows) → HasMost v db held → (found : Option (TableRows Entry)) (replies : TableRows Entry) → found ≡ Some replies → BriefRead db found
     → (t : Tables) (rows : Vec Entry Global) (apart : Bool) → t ≡ held.tables → rows ≡ replies.rows → apart ≡ (held.apart && replies.apart) → HasForAudit v db (record { tables = record t { replies = rows.items }; apart = apart })
 put_together v db held most found replies is read t rows apart same_tables same_rows same_apart =
@@ -142,7 +142,7 @@ put_together v db held most found replies is read t rows apart same_tables same_
     (subst (λ (vec : Vec Entry Global). HasForAudit v db (record { tables = record held.tables { replies = vec.items }; apart = apart })) (sym same_rows)
     (subst (λ a. HasForAudit v db (record { tables = record held.tables { replies = replies.rows.items }; apart = a })) (sym same_apart) (for_audit v db held most replies (subst (BriefRead db) is read))))
 
--- rows that are held, with the bytes of replies again
+-- the rows with the bytes of replies
 pub with_bytes : (v : Version) (db : Database) (tables t : Tables) → HoldsRows v t db → HaveSameRows tables (without_reply_bytes t) → (replies : List Entry) → Has reply_at false (map reply_row replies) db → HaveSameRows (record tables { replies = replies }) t
 with_bytes v db tables t holds same replies has = record {
   products = same.products;
@@ -173,7 +173,7 @@ module _ (db : Database) (products : TableRows Product) (lots : TableRows Stored
         (λ t. all.1 (((((((((t.0, t.1.0), t.1.1.0), t.1.1.1.0), t.1.1.1.1.0), t.1.1.1.1.1.0), t.1.1.1.1.1.1.0), t.1.1.1.1.1.1.1.0), t.1.1.1.1.1.1.1.1.0), t.1.1.1.1.1.1.1.1.1.0)),
       )
 
--- ---- all but replies, where each was read
+-- ---- all tables except `reply`, if each was read
 
 marks_are : (v : Version) (db : Database) (all : TableRows Mark) → HasMarks v db all → MarksAre v all.rows.items db
 marks_are One db all has = has

@@ -1,4 +1,4 @@
--- What is read of the row of `version`, where the version's tables stand.
+-- The result of reading the row of `version`, if the tables of the version exist.
 use Rattle.std.proofs.Common.{◌↔◌, ℕ, Bool, true, [], ◌∷◌, IsTrue}
 use Rattle.std.specs.List.Sorted.{IsPermutation}
 use Rattle.sqlite.specs.Effect.{Database}
@@ -12,7 +12,7 @@ use Rattle.sql_tables.specs.declared.versions.Version.TheVariants.{One, Two, Thr
 use Rattle.table_reads.specs.Version.{numbered_row}
 use Rattle.table_reads.specs.Holding.{SaysVersion, number_of}
 
--- the table `version` stands there
+-- The schema has the table `version`.
 record IsThere (v : Version) (s : Schema) : Type 0 where
   number : ℕ
   finds : Finds s (numbered_version_at (number_of v) number)

@@ -1,5 +1,5 @@
--- What a text that shows columns of a table by their names, its rowid or all of them means, at any
--- schema in which the name finds the table.
+-- The meaning of a query for columns of a table, by name, for its rowid, or for all columns, in any
+-- schema in which its name finds the table.
 use Rattle.sqlite_value.specs.declared.keys.Collation.{Collation}
 use Rattle.std.proofs.Common.{◌≡◌, ◌-◌, ℕ, codes, List, [], ◌∷◌, refl, false, true, suc, ap, ◌∙◌, Option, Some, None, Ok, slice_get, ◌==◌, nat_le, nat_lt, ◌^◌, ◌++◌, length, map, pos, negsuc}
 use Rattle.std.specs.Prelude.{find, option_and_then, option_map, unwrap_or}
@@ -77,7 +77,7 @@ first_level name at = record { tables = one name at; shown = [] }
 abbrev pub inside : Schema → Name → ℕ → Context
 inside s name at = record (outermost s) { levels = first_level name at ∷ []; may_aggregate = true }
 
--- ---- what they show
+-- ---- the columns of the result
 
 abbrev pub rowid_shown : Table → Output
 rowid_shown t = record { name = unwrap_or (option_and_then (λ k. option_map (λ (c : Column). c.name) (slice_get t.columns k)) t.key) (codes "rowid"); is_alias = false; is_column = true; term = col 1 0; carried = nothing }
@@ -88,7 +88,7 @@ column_shown t k c = record { name = c.name; is_alias = false; is_column = true;
 abbrev pub all_shown : Table → Name → ℕ → List Output → List Output
 all_shown t name at done = columns_from None t (bound_of name at) 0 done t.columns
 
--- ---- the states of a reading
+-- ---- the states of a parse
 
 abbrev begun : State
 begun = fresh 1 max_budget
@@ -143,7 +143,7 @@ module _ (s : Schema) (name : Name) (at : ℕ) (t : Table) (there : slice_get s.
   unfolding shown stars columns_of layers
   all_item done few some st = rw (there, few, some) refl
 
-  -- ---- what the texts show
+  -- ---- the result of the queries
 
   pub all_are : nat_lt 2000 (length (all_shown t name at [])) ≡ false → nat_lt 0 (length (all_shown t name at [])) ≡ true
       → result lower (outermost s) (first_level name at) (core_of name (All ∷ [])) later ≡ Ok (all_shown t name at [], later)

@@ -1,4 +1,4 @@
--- A row of a STRICT table with NOT NULL everywhere has just its columns.
+-- A row of a STRICT table whose columns are all NOT NULL has exactly its columns.
 use Rattle.std.proofs.Common.{◌≡◌, ◌+◌, ◌&&◌, ◌||◌, ℕ, zero, suc, Bool, true, false, not, List, [], ◌∷◌, Option, Some, length, drop, refl, sym, ap, ap₂, ◌∙◌, arith}
 use Rattle.sqlite.specs.Ops.{is_null}
 use Rattle.sqlite.specs.Order.{Row, column}
@@ -10,7 +10,7 @@ use Rattle.sqlite_schema.specs.Rules.{are_present, are_typed}
 use Rattle.sqlite_schema.specs.declared.schema.Column.{Column}
 use Rattle.table_reads.specs.Whole.{as_stored}
 
--- ---- what stands at a place
+-- ---- the value at a position
 
 head_at : (k : ℕ) (r : Row) (v : Value) (vs : Row) → drop k r ≡ v ∷ vs → column r k ≡ v
 head_at zero [] v vs e = absurd (cc)
@@ -37,7 +37,7 @@ null_is (Real x) h = absurd (cc)
 null_is (Text t) h = absurd (cc)
 null_is (Blob b) h = absurd (cc)
 
--- ---- columns of which none is the rowid, and each is NOT NULL
+-- ---- columns that are NOT NULL and aren't the rowid
 
 abbrev pub are_plain : Option ℕ → ℕ → List Column → Bool
 are_plain key at [] = true
@@ -93,7 +93,7 @@ keyed_by [] r plain typed present = absurd (cc)
 keyed_by (c ∷ []) r plain typed present = absurd (cc)
 keyed_by (c ∷ d ∷ cs) r plain typed present = keyed c d cs r plain typed present
 
--- ---- a shown row of a known length
+-- ---- a row of a query, with a known length
 
 abbrev pub firsts : ℕ → (ℕ → Value) → Row
 firsts zero f = []

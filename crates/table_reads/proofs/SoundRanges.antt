@@ -1,4 +1,4 @@
--- The rows of sound contents are in the ranges of the program.
+-- The numbers in the rows of sound contents are in the ranges of the program's types.
 use Rattle.std.proofs.Common.{◌≡◌, ◌<◌, ◌∙◌, ℕ, List, All, ap, arith}
 use Rattle.std.specs.List.{enumerate_from}
 use Rattle.std.proofs.lemmas.List.Elements.{All-map, All-same, All-weaker}

@@ -1,4 +1,4 @@
--- What each read gives of all tables.
+-- The result of each read, for all tables.
 use Rattle.std.proofs.Common.{◌↔◌, ℕ, Bool, false, List, map, Option, MatchOption, All, IsTrue}
 use Rattle.std.specs.List.Sorted.{IsPermutation}
 use Rattle.sqlite.specs.Effect.{Database}
@@ -25,29 +25,29 @@ use Rattle.table_reads.specs.Reading.{Fit, HasGroupings, HasMarks, HasWhole, Hol
 use Rattle.table_reads.specs.declared.reads.TableRows.{TableRows}
 use Rattle.table_reads.proofs.Together.{carried, found_as}
 
--- what a read of one table, whole, gives
+-- the result of reading one whole table
 abbrev pub Answers : {X : Type 0} → List ℕ → (X → Row) → (X → Type 0) → Bool → State → Option (TableRows X) → Type 0
 Answers sql encode fits by_rowid s found =
     IsTrue s.is_open
     × ((table : ℕ → Table) → IsWhole sql table by_rowid → (tree : ℕ) → Finds s.now.schema (table tree) → MatchOption found (NoneStandSo encode fits (given_rows by_rowid (s.now.trees tree))) (λ all. IsPermutation (map encode all.rows.items) (given_rows by_rowid (s.now.trees tree)) × (IsTrue all.apart ↔ AreApart (s.now.trees tree))))
 
--- the table's rows were read, or the database holds no rows of the version
+-- The rows of the table were read, or the database holds no rows of the version.
 abbrev pub IsRead : {X : Type 0} → Version → (X → Row) → (ℕ → Table) → Bool → Database → Option (TableRows X) → Type 0
 IsRead v encode table by_rowid db found = MatchOption found (HoldsNoneOf v db) (HasWhole table by_rowid encode db)
 
 module _ {X : Type 0} (encode : X → Row) (fits : X → Type 0) (table : ℕ → Table) (by_rowid : Bool) (v : Version) (rows : Tables → List X) (fit : (t : Tables) → Fit t → All fits (rows t)) where
-  -- of the database that it was read of
+  -- for the database from which the table was read
   pub read_in : ((t : Tables) (db : Database) → HoldsRows v t db → Holds table by_rowid (map encode (rows t)) db) → (sql : List ℕ) → IsWhole sql table by_rowid → (s : State) (found : Option (TableRows X)) → Answers sql encode fits by_rowid s found
       → Reads (HoldsNoneOf v) (HasWhole table by_rowid encode) s found
   read_in held sql whole s found given_is =
       (given_is.0, found_as encode fits table by_rowid s.now (HoldsNoneOf v s.now) (λ lacks t ranged holds. lacks (rows t) (fit t ranged) (held t s.now holds)) found (given_is.1 table whole))
 
-  -- of the database that was shown at first
+  -- for the database at the start of all reads
   pub read_of : ((t : Tables) (db : Database) → HoldsRows v t db → Holds table by_rowid (map encode (rows t)) db) → (sql : List ℕ) → IsWhole sql table by_rowid → (old mid : State) → IsKept old mid → (found : Option (TableRows X)) → Answers sql encode fits by_rowid mid found
       → IsRead v encode table by_rowid old.now found
   read_of held sql whole old mid kept found given_is = carried (HoldsNoneOf v) (HasWhole table by_rowid encode) old mid kept found (read_in held sql whole mid found given_is)
 
--- ---- the tables that versions differ in
+-- ---- the tables that differ between versions
 
 abbrev pub GroupingsRead : Version → State → Option (TableRows StoredGrouping) → Type 0
 GroupingsRead v s found = Reads (HoldsNoneOf v) (HasGroupings v) s found

@@ -1,4 +1,4 @@
--- One read after another, and what they give of all tables.
+-- Several reads, one after the other, and their result for all tables.
 use Rattle.std.proofs.Common.{ℕ, Bool, List, map, Option, Some, None, MatchOption, All, IsTrue, ◌↔◌, subst, arith}
 use Rattle.std.specs.Prelude.{option_map, option_and_then}
 use Rattle.std.specs.List.Sorted.{IsPermutation}
@@ -21,16 +21,16 @@ use Rattle.table_reads.specs.declared.reads.TableRows.{TableRows}
 pub early : (old new : State) → Survives old new (λ _. ⊥) → HasCleanDisk new → HasCleanDisk old
 early old new survives clean = omega (arith, survives.clean)
 
--- one read after another commits nothing
+-- Several reads, one after the other, commit nothing.
 pub outlives : {a b c : State} → Survives a b (λ _. ⊥) → Survives b c (λ _. ⊥) → Survives a c (λ _. ⊥)
 outlives {a} {b} {c} one two = survives_then a b c _ _ _ (λ _ db none. none) (λ _ db none. none) one two
 
 pub outlives_four : {a b c d e : State} → Survives a b (λ _. ⊥) → Survives b c (λ _. ⊥) → Survives c d (λ _. ⊥) → Survives d e (λ _. ⊥) → Survives a e (λ _. ⊥)
 outlives_four one two three four = outlives (outlives one two) (outlives three four)
 
--- ---- what was found
+-- ---- the results
 
--- what was read of one table
+-- the result for one table
 pub found_as : {X : Type 0} (encode : X → Row) (fits : X → Type 0) (table : ℕ → Table) (by_rowid : Bool) (db : Database) (Refused : Type 0)
     → (((xs : List X) → All fits xs → Holds table by_rowid (map encode xs) db → ⊥) → Refused) → (found : Option (TableRows X))
     → ((tree : ℕ) → Finds db.schema (table tree) → MatchOption found (NoneStandSo encode fits (given_rows by_rowid (db.trees tree))) (λ all. IsPermutation (map encode all.rows.items) (given_rows by_rowid (db.trees tree)) × (IsTrue all.apart ↔ AreApart (db.trees tree))))
@@ -38,12 +38,12 @@ pub found_as : {X : Type 0} (encode : X → Row) (fits : X → Type 0) (table : 
 found_as encode fits table by_rowid db Refused refuses (Some all) h = h
 found_as encode fits table by_rowid db Refused refuses None h = refuses (λ xs fit held. h held.number held.finds xs fit held.rows_are)
 
--- the same of the database that was shown at first
+-- the same result, for the database at the start of all reads
 pub carried : {F : Type 0} (R : Database → Type 0) (P : Database → F → Type 0) (old mid : State) → IsKept old mid → (found : Option F) → Reads R P mid found → MatchOption found (R old.now) (P old.now)
 carried R P old mid kept (Some all) read = subst (λ db. P db all) (kept.now_is read.0) read.1
 carried R P old mid kept None read = subst R (kept.now_is read.0) read.1
 
--- the next, where this one was found
+-- the next result, if the previous one was found
 pub then_found : {A B : Type 0} (R : Type 0) (P : A → Type 0) (Q : B → Type 0) (f : A → Option B) (o : Option A) → MatchOption o R P → ((x : A) → P x → MatchOption (f x) R Q) → MatchOption (option_and_then f o) R Q
 then_found R P Q f (Some x) found next = next x found
 then_found R P Q f None lacks next = lacks

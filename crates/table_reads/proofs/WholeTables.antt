@@ -1,5 +1,5 @@
--- A text that asks for a whole table is known by one computation, at any schema in which the table
--- is found.
+-- A query for a whole table is understood by one computation, in any schema in which the table is
+-- found.
 use Rattle.std.proofs.Common.{◌≡◌, ◌+◌, ◌∙◌, ℕ, zero, suc, Bool, true, false, nat_le, nat_lt, ◌^◌, codes, slice_get, List, [], ◌∷◌, drop, length, Option, None, Some, Result, Ok, Err, refl, sym, ap, subst, arith}
 use Rattle.std.proofs.lemmas.Bool.{leb-false, ltb-false, true_from_ne_false}
 use Rattle.sqlite.specs.Order.{Row, column}
@@ -33,17 +33,17 @@ use Rattle.table_reads.specs.Whole.{Asks, IsWhole, as_stored, columns_of, stored
 use Rattle.table_reads.proofs.Selecting.{all_are, all_shown, asks, core_of, first_level, held, item, later, read_from, rowid_and_all_are, rowid_shown, select_of}
 use Rattle.table_reads.proofs.Shapes.{are_keyed, are_plain, filled, keyed_by, spread}
 
--- the columns from a place on
+-- the columns from a position
 abbrev pub from_place : ℕ → List Column → List Term
 from_place at [] = []
 from_place at (c ∷ cs) = col 1 (at + 1) ∷ from_place (at + 1) cs
 
--- all columns beside the rowid, which is the first of them or none
+-- all columns except the rowid, which is the first column or no column
 abbrev pub more_of : Bool → List Column → List Term
 more_of true cs = from_place 1 (drop 1 cs)
 more_of false cs = from_place 0 cs
 
--- each column is NOT NULL, and the first is the rowid or none is
+-- Every column is NOT NULL, and the rowid is the first column or no column.
 abbrev pub are_shown : Bool → Option ℕ → List Column → Bool
 are_shown true (Some zero) cs = are_keyed cs
 are_shown true _ cs = false
@@ -60,12 +60,12 @@ all_of_is true (Some zero) cs r shown typed present = ap (λ vs. as_stored true 
 all_of_is true (Some (suc k)) cs r shown typed present = absurd (cc)
 all_of_is false key cs r shown typed present = from_place_is 0 cs r ∙ sym (filled key cs 0 r (drop 1 r) refl shown typed present)
 
--- ---- what a text shows of a table
+-- ---- the columns in the result
 
 abbrev pub rowid_name : List ℕ
 rowid_name = codes "rowid"
 
--- where the rowid is no column, it is asked for by its name
+-- If the rowid isn't a column, the query asks for it by name.
 abbrev pub items_of : Bool → List Item
 items_of true = All ∷ []
 items_of false = item rowid_name ∷ All ∷ []
@@ -90,7 +90,7 @@ are_outs : (by_rowid : Bool) (s : Schema) (at : ℕ) (t : Table) → slice_get s
 are_outs true s at t there low unnamed names few some = all_are s t.name at t there few some
 are_outs false s at t there low unnamed names few some = rowid_and_all_are s t.name at t there low rowid_name unnamed names few some
 
--- what a text and a table come to
+-- the results of the computation for a text and a table
 pub record Computed : Type 0 where
   pub statement : Option (Statement × List (List ℕ))
   pub tree : ℕ
@@ -124,7 +124,7 @@ computed by_rowid text t at =
       names_rowid = is_rowid rowid_name;
     }
 
--- the rowid and all columns of the table by its name, and no value of it is lost
+-- The query is for the rowid and all columns of the table, found by its name, and no value is lost.
 abbrev pub as_whole : Bool → List Column → Table → ℕ → Computed
 as_whole by_rowid columns t tree = record {
   statement = Some (Select (select_of t.name (items_of by_rowid)), []);

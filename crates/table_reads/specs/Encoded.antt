@@ -1,4 +1,4 @@
--- A typed row in its ranges stands as a row of the shape of its table.
+-- A typed row whose numbers are in range is stored as a row with the shape of its table.
 use Rattle.std.proofs.Common.{◌≡◌, ◌<◌, Bool, true, false, [], ◌∷◌, refl, sym, ap, subst, ◌∙◌, arith}
 use Rattle.sqlite.specs.Order.{Row, column}
 use Rattle.sqlite.specs.declared.types.Value.{Value}
@@ -36,7 +36,7 @@ enc_low enc.Plain = omega arith
 enc_low enc.All = omega arith
 enc_low enc.Mixed = omega arith
 
--- a stored row without the NULL in the place of its rowid
+-- a stored row without the NULL in the column of its rowid
 abbrev pub without_null : Row → Row
 without_null [] = []
 without_null (id ∷ []) = id ∷ []

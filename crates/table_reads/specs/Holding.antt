@@ -1,5 +1,6 @@
--- When a database holds rows in the tables of a version (docs/TABLES.md): its tables are those of
--- the version, in any order and under any numbers, and their rows are these, in any order.
+-- Defines when a database holds rows in the tables of a schema version (docs/TABLES.md): it has
+-- exactly the tables of the version, in any order and with any tree numbers, with exactly these
+-- rows, in any order.
 use Rattle.std.specs.Prelude.{◌≡◌, ℕ, Bool, true, false, List, [], ◌∷◌, map, IsPermutation}
 use Rattle.sqlite.specs.Effect.{Database}
 use Rattle.sqlite.specs.Order.{Row}
@@ -17,14 +18,14 @@ use Rattle.sql_tables.specs.declared.versions.Version.{Version}
 use Rattle.sql_tables.specs.declared.versions.Version.TheVariants.{One, Two, Three}
 use Rattle.table_reads.specs.Version.{numbered_row}
 
--- the table stands there under some number, and these are its rows, in any order, given with their
--- rowids or without
+-- The database has the table under some tree number, with exactly `rows`, in any order, given with
+-- or without their rowids.
 pub record Holds (table : ℕ → Table) (by_rowid : Bool) (rows : List Row) (db : Database) : Type 0 where
   pub number : ℕ
   pub finds : Finds db.schema (table number)
   pub rows_are : IsPermutation rows (given_rows by_rowid (db.trees number))
 
--- ---- what versions differ in
+-- ---- differences between versions
 
 abbrev pub number_of : Version → ℕ
 number_of One = 1
@@ -36,17 +37,17 @@ groupings_at One = unmixed_grouping_at
 groupings_at Two = unmixed_grouping_at
 groupings_at Three = grouping_at
 
--- version 1 has no marks
+-- version 1 has no release marks
 abbrev pub HoldsMarks : Version → List Mark → Database → Type 0
 HoldsMarks One marks db = marks ≡ []
 HoldsMarks Two marks db = Holds mark_at false (map mark_row marks) db
 HoldsMarks Three marks db = Holds mark_at false (map mark_row marks) db
 
--- the one row of `version` says this one
+-- The only row of `version` has the number of `v`.
 abbrev pub SaysVersion : Version → Database → Type 0
 SaysVersion v db = Holds (numbered_version_at (number_of v)) true (numbered_row (number_of v) ∷ []) db
 
--- the tables are those of this version, and say so
+-- The tables are the tables of `v`, and the row of `version` has its number.
 abbrev pub IsOfVersion : Version → Database → Type 0
 IsOfVersion v db = HasJust db.schema (schema_of v) × SaysVersion v db
 
@@ -67,6 +68,6 @@ pub record HoldsRows (v : Version) (t : Tables) (db : Database) : Type 0 where
   pub replies : Holds reply_at false (map reply_row t.replies) db
   pub marks : HoldsMarks v t.marks db
 
--- in the tables of this version it holds the rows of sound contents
+-- The database holds the rows of sound contents in the tables of `v`.
 abbrev pub HoldsSoundRows : Version → Database → Type 0
 HoldsSoundRows v db = (c : Contents) × AreSound c × HoldsRows v (image c) db

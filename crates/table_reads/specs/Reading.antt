@@ -1,4 +1,4 @@
--- What reading tables whole gives of a database.
+-- The results of reading all tables of a database.
 use Rattle.std.specs.Prelude.{◌≡◌, ◌↔◌, ◌&&◌, ℕ, Bool, true, false, List, [], ◌∷◌, map, All, Option, MatchOption, IsPermutation, IsTrue, option_map, option_and_then}
 use Rattle.std.specs.List.{AllByRecursion}
 use Rattle.sqlite.specs.Effect.{Database}
@@ -25,28 +25,29 @@ use Rattle.table_reads.specs.Unread.{without_reply_bytes}
 use Rattle.table_reads.specs.declared.reads.TableRows.{TableRows}
 use Rattle.table_reads.specs.declared.tables.HeldRows.{HeldRows}
 
--- the numbers of rows are in the ranges of the program
+-- The numbers in the rows of `t` are in the ranges of the program's types.
 pub record Fit (t : Tables) : Type 0 where
   pub products : All FitsProduct t.products
   pub lots : All FitsLot t.lots
   pub groupings : All FitsGrouping t.groupings
   pub words : All FitsWord t.words
 
--- in the tables of this version the database holds no such rows
+-- The database holds no rows with numbers in range in the tables of `v`.
 abbrev pub HoldsNoneOf : Version → Database → Type 0
 HoldsNoneOf v db = (t : Tables) → Fit t → HoldsRows v t db → ⊥
 
--- the connection was open, and this was found in what it showed, or the database was refused
+-- The connection was open. The result is `found`, as read from the database that the connection
+-- showed, or `None` if the database is refused.
 abbrev pub Reads : {X : Type 0} → (Database → Type 0) → (Database → X → Type 0) → State → Option X → Type 0
 Reads Refused Found old found = IsTrue old.is_open × MatchOption found (Refused old.now) (Found old.now)
 
--- ---- tables, wherever they stand
+-- ---- tables, under any tree number
 
--- these are the table's rows, in any order
+-- The rows of the table are exactly `rows`, in any order.
 abbrev pub Has : (ℕ → Table) → Bool → List Row → Database → Type 0
 Has table by_rowid rows db = (tree : ℕ) → Finds db.schema (table tree) → IsPermutation rows (given_rows by_rowid (db.trees tree))
 
--- they were read, and it was said whether no two of them have one rowid
+-- The rows were read, and `apart` tells whether all rowids are different.
 abbrev pub HasWhole : {X : Type 0} → (ℕ → Table) → Bool → (X → Row) → Database → TableRows X → Type 0
 HasWhole table by_rowid encode db all =
     (tree : ℕ) → Finds db.schema (table tree) → IsPermutation (map encode all.rows.items) (given_rows by_rowid (db.trees tree)) × (IsTrue all.apart ↔ AreApart (db.trees tree))
@@ -54,15 +55,15 @@ HasWhole table by_rowid encode db all =
 abbrev pub HasGroupings : Version → Database → TableRows StoredGrouping → Type 0
 HasGroupings v db all = HasWhole (groupings_at v) false grouping_row db all
 
--- version 1 has no marks
+-- version 1 has no release marks
 abbrev pub HasMarks : Version → Database → TableRows Mark → Type 0
 HasMarks One db all = all.rows.items ≡ []
 HasMarks Two db all = HasWhole mark_at false mark_row db all
 HasMarks Three db all = HasWhole mark_at false mark_row db all
 
--- ---- all of them but replies
+-- ---- all tables except `reply`
 
--- all rows, where those of each table were read
+-- the rows of all tables, if the rows of every table were read
 abbrev pub held_of : Option (TableRows Product) → Option (TableRows StoredLot) → Option (TableRows StoredBatch) → Option (TableRows StoredRecord) → Option (TableRows StoredGrouping) → Option (TableRows StoredSession)
     → Option (TableRows StoredWord) → Option (TableRows StoredBlank) → Option (TableRows StoredRemake) → Option (TableRows Mark) → Option HeldRows
 held_of of_products of_lots of_batches of_records of_groupings of_sessions of_words of_blanks of_remakes of_marks =
@@ -92,7 +93,7 @@ held_of of_products of_lots of_batches of_records of_groupings of_sessions of_wo
       apart = ((((((((products.apart && lots.apart) && batches.apart) && records.apart) && groupings.apart) && sessions.apart) && words.apart) && blanks.apart) && remakes.apart) && marks.apart;
     }) of_marks) of_remakes) of_blanks) of_words) of_sessions) of_groupings) of_records) of_batches) of_lots) of_products
 
--- our tables but `version` and `reply`
+-- the tables of the current schema except `version` and `reply`
 abbrev pub most_tables : List Table
 most_tables = product_table ∷ lot_table ∷ batch_table ∷ record_table ∷ grouping_table ∷ session_table ∷ word_table ∷ blank_table ∷ remake_table ∷ mark_table ∷ []
 
@@ -101,8 +102,8 @@ MarksAre One marks db = marks ≡ []
 MarksAre Two marks db = Has mark_at false (map mark_row marks) db
 MarksAre Three marks db = Has mark_at false (map mark_row marks) db
 
--- the rows of each table but `version` and `reply`, wherever it stands, and whether no two rows of
--- one of them have one rowid
+-- The rows of all tables except `version` and `reply`, under any tree number. `apart` tells whether
+-- all rowids in each of these tables are different.
 pub record HasMost (v : Version) (db : Database) (held : HeldRows) : Type 0 where
   pub products : Has product_at false (map product_row held.tables.products) db
   pub lots : Has lot_at false (map lot_row held.tables.lots) db
@@ -116,14 +117,15 @@ pub record HasMost (v : Version) (db : Database) (held : HeldRows) : Type 0 wher
   pub marks : MarksAre v held.tables.marks db
   pub apart : v ≡ Three → db.schema ≡ our_schema → IsTrue held.apart ↔ AllByRecursion (λ t. AreApart (db.trees t.tree)) most_tables
 
--- ---- all of them
+-- ---- all tables
 
--- where the tables are those of the version and it is given, these are the rows
+-- If the tables are the tables of `v`, and the row of `version` has its number, the database holds
+-- the rows `t`.
 abbrev pub HasRows : Version → Database → Tables → Type 0
 HasRows v db t = HasJust db.schema (schema_of v) → AreThere db.schema (schema_of v).tables → SaysVersion v db → HoldsRows v t db
 
--- what the audit has of the rows: all but the bytes of replies, and whether no two rows of a table
--- have one rowid
+-- The rows for the audit: all rows, without the bytes of replies. `apart` tells whether all rowids
+-- in each table are different.
 pub record IsForAudit (v : Version) (db : Database) (held : HeldRows) : Type 0 where
   pub rows : Tables
   pub holds : HoldsRows v rows db

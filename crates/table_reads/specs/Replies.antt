@@ -1,4 +1,4 @@
--- What is read of replies where their bytes are left out.
+-- Replies that are read without their bytes.
 use Rattle.std.specs.Prelude.{◌≡◌, List, [], map, IsPermutation}
 use Rattle.sqlite.specs.Order.{Row, column}
 use Rattle.job_facts.specs.Contents.{Entry}
@@ -6,11 +6,12 @@ use Rattle.sql_rows.specs.Decoding.{bytes_in, number_in}
 use Rattle.sql_rows.specs.Encoding.{reply_row}
 use Rattle.table_reads.specs.Unread.{without_bytes}
 
--- the reply that a shown row gives
+-- the reply in a row of the query
 abbrev pub brief_of : Row → Entry
 brief_of row = record { client = bytes_in (column row 1); number = number_in (column row 2); ask = []; status = number_in (column row 3); body = [] }
 
--- replies stand as these rows, in any order, and these are they without their bytes
+-- The stored rows encode replies, in any order, and `entries` are these replies without their
+-- bytes.
 pub record StandWithoutBytes (entries : List Entry) (stored : List Row) : Type 0 where
   pub all : List Entry
   pub without : entries ≡ map without_bytes all

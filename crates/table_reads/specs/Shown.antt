@@ -1,4 +1,5 @@
--- The shapes of the rows that a whole table shows, and which typed rows they can give.
+-- The shapes of the rows that a query of a whole table returns, and the typed rows that they can
+-- represent.
 use Rattle.std.specs.Prelude.{◌≡◌, ◌<◌, ◌^◌, ℕ, length, ⊤}
 use Rattle.sqlite.specs.Order.{Row, column}
 use Rattle.sqlite.specs.declared.types.Value.{Value}
@@ -22,7 +23,7 @@ IsText v = Text (bytes_in v) ≡ v
 abbrev pub IsBlob : Value → Type 0
 IsBlob v = Blob (bytes_in v) ≡ v
 
--- ---- rows; each begins with its rowid, which a table has as a column or not
+-- ---- rows; each begins with its rowid, which may also be a column of the table
 
 unfoldable pub IsProductRow : Row → Type 0
 IsProductRow r = (length r ≡ 5) × IsText (column r 1) × IsBelow 256 (column r 2) × IsBelow 256 (column r 3) × IsBelow 2 (column r 4)
@@ -69,11 +70,11 @@ IsReplyRow r = (length r ≡ 6) × IsText (column r 1) × IsNumber (column r 2) 
 unfoldable pub IsMarkRow : Row → Type 0
 IsMarkRow r = (length r ≡ 3) × IsText (column r 1) × IsNumber (column r 2)
 
--- a row of replies without what was asked and what was answered
+-- a row of `reply` without the request bytes and the body
 unfoldable pub IsBriefRow : Row → Type 0
 IsBriefRow r = (length r ≡ 4) × IsText (column r 1) × IsNumber (column r 2) × IsNumber (column r 3)
 
--- ---- typed rows: their numbers are in the ranges of the program
+-- ---- typed rows, whose numbers are in the ranges of the program's types
 
 abbrev pub IsAny : {X : Type 0} → X → Type 0
 IsAny x = ⊤

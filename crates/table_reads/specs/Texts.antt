@@ -1,5 +1,5 @@
--- The texts that ask for our tables whole, each row with its rowid first: where that is a column, it
--- is the first.
+-- The texts of the queries for whole tables, with the rowid of each row first. If a column is an
+-- alias of the rowid, it is the first column.
 use Rattle.std.specs.Prelude.{List, ℕ, codes}
 
 abbrev pub version_text : List ℕ
@@ -41,6 +41,6 @@ replies_text = codes "SELECT rowid, * FROM reply"
 abbrev pub marks_text : List ℕ
 marks_text = codes "SELECT rowid, * FROM mark"
 
--- replies without what was asked and what was answered
+-- replies without the request bytes and the body
 abbrev pub brief_replies_text : List ℕ
 brief_replies_text = codes "SELECT rowid, client, number, status FROM reply"

@@ -1,9 +1,9 @@
--- Replies without the bytes that no rule of the audit reads.
+-- Replies without the bytes that no audit rule reads.
 use Rattle.std.specs.Prelude.{[], map}
 use Rattle.job_facts.specs.Contents.{Entry}
 use Rattle.table_rows.specs.Tables.{Tables}
 
--- without what was asked and what was answered
+-- the reply without its request bytes and its body
 abbrev pub without_bytes : Entry → Entry
 without_bytes e = record e { ask = []; body = [] }
 

@@ -1,4 +1,4 @@
-//! The rows of groupings, sessions, words, blanks, remakes, replies and marks.
+//! The rows of groupings, sessions, status words, blanks, remakes, replies and release marks.
 ghost use Rattle.std.specs.Prelude.{false, true};
 ghost use Rattle.sql_rows.specs.Encoding.{blank_row, grouping_row, mark_row, remake_row};
 ghost use Rattle.sql_rows.specs.Encoding.{reply_row, session_row, word_row};

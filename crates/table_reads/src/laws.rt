@@ -1,5 +1,5 @@
-//! What holds of our tables and of the rows that a database holds. Each function does nothing; who
-//! calls it has its law.
+//! Lemmas about the tables of the current schema, and about the rows that a database holds. Each
+//! function does nothing, and its contract is the lemma.
 ghost use Rattle.std.specs.Prelude.{◌≡◌};
 ghost use Rattle.std.specs.List.{AllByRecursion};
 ghost use Rattle.sqlite.specs.Effect.{Database, IsDatabase};
@@ -16,25 +16,27 @@ ghost use Rattle.table_reads.specs.Rowids.{StandAsMade};
 
 use sql_tables::Version;
 
-/// Each of our tables is found in our own schema, under the number that it has there.
+/// Lemma: every table of the current schema is found in that schema, under its tree number.
 pub fn our_tables_are_found()
     ensures { AllByRecursion (Finds our_schema) our_schema.tables }
 {}
 
-/// A database holds the rows of one image alone, whatever the version.
+/// Lemma: a database holds the rows of only one `Tables` value, up to their order, in any schema
+/// version.
 pub fn held_rows_are_one()
     ensures { (v w : OfVersion) (t u : Tables) (db : Database) → HoldsRows v t db
         → HoldsRows w u db → HaveSameRows t u }
 {}
 
-/// The rows that a database holds stand in any order.
+/// Lemma: a database that holds rows also holds them in any other order.
 pub fn rows_are_held_in_any_order()
     ensures { (v : OfVersion) (t u : Tables) (db : Database) → HaveSameRows t u → HoldsRows v u db
         → HoldsRows v t db }
 {}
 
-/// Where our own tables stand as they are made, the rows that are held are an image. So stand the
-/// tables of an image, and its rows are held.
+/// Lemma: if a database has exactly the tables that the store creates, with different rowids in
+/// each table, the rows that it holds are its image. Conversely, a database with an image has such
+/// tables and holds the rows of the image.
 pub fn our_rows_are_an_image()
     ensures image { (v : OfVersion) (t : Tables) (db : Database) → HoldsRows v t db
         → IsDatabase db → StandAsMade db → IsImage t db }
@@ -42,7 +44,7 @@ pub fn our_rows_are_an_image()
     ensures held { (t : Tables) (db : Database) → IsImage t db → HoldsRows Version.Three t db }
 {}
 
-/// The rows of sound contents are in the ranges of the program.
+/// Lemma: the numbers in the rows of sound contents are in the ranges of the program's types.
 pub fn sound_rows_fit()
     ensures { (c : Contents) → AreSound c → Fit (image c) }
 {}

@@ -1,4 +1,5 @@
-//! Our tables are read whole, and all of any version as rows, in any order and under any numbers.
+//! Reads all rows of a database, in the tables of any schema version, in any order and with any
+//! tree numbers.
 #![tactic(auto)]
 
 mod cards;

@@ -1,4 +1,4 @@
-//! A table is read whole, whatever its order and its number are.
+//! Reads a whole table, regardless of the order of its rows and its tree number.
 ghost use Rattle.std.specs.Prelude.{◌≡◌, ◌↔◌, ℕ, false, map, List, IfErr, IfOk, IsPermutation};
 ghost use Rattle.std.specs.Prelude.{IsTrue, MatchOption};
 ghost use Rattle.sqlite.specs.Effect.{IsDatabase};
@@ -22,12 +22,12 @@ use sqlite::{Alter, Connection, Error, Row};
 #[derive(Drop)]
 pub struct TableRows<T> {
     pub rows: Vec<T>,
-    /// Whether no two of them have one rowid.
+    /// Whether all rowids are different.
     pub apart: bool,
 }
 
-// What a text that asks for rowids, and for more beside them, shows of a tree, and whether the
-// rowids are apart: whether they rise once the rows are sorted by them.
+// Returns the rows of a query for rowids and other columns, sorted by rowid, and whether the rowids
+// are different. They are different if and only if they ascend after the sort.
 pub(crate) fn shown_rows<S: Alter>(
     conn: &mut Connection<S>,
     sql: &str,
@@ -53,9 +53,9 @@ pub(crate) fn shown_rows<S: Alter>(
     Ok(TableRows { rows, apart })
 }
 
-/// All rows of the table that a text asks for whole, in any order, and whether no two of them have
-/// one rowid; none where some row is not such a one. Nothing is changed, and a crash leaves what it
-/// could leave before.
+/// Returns all rows of the table that the query `sql` reads, in any order, and whether their rowids
+/// are different. Returns `None` if a row doesn't have the shape of its table. The database isn't
+/// changed, even by a crash.
 pub fn whole<T: Stored, S: Alter>(
     conn: &mut Connection<S>,
     sql: &str,

@@ -1,5 +1,5 @@
-//! Replies are read without what was asked and what was answered, for which the audit has no use;
-//! and those bytes are read anew.
+//! Reads replies without their request bytes and bodies, which the audit doesn't need, and reads
+//! these bytes later if they are needed.
 ghost use Rattle.std.specs.Prelude.{◌≡◌, ◌↔◌, ℕ, false, map, All, IfErr, IfOk, IsTrue};
 ghost use Rattle.std.specs.Prelude.{MatchOption, MatchResult};
 ghost use Rattle.sqlite.specs.Held.{state};
@@ -32,7 +32,8 @@ fn is_brief(row: &Row) -> bool
     row.column_count() == 4 && is_text(row, 1) && is_number(row, 2) && is_number(row, 3)
 }
 
-// The reply that a shown row gives, where it gives one. No error is one of the disk.
+// Returns the reply in a row of the query, or `None` if the row has another shape. An error is
+// never a disk error.
 fn brief_in(alloc: Global, row: &Row) -> Result<Option<StoredReply>, Error>
     ensures { MatchResult result (λ found. MatchOption found (IsBriefRow row.now → ⊥)
         (λ reply. IsBriefRow row.now × (reply ≡ brief_of row.now)))
@@ -51,7 +52,8 @@ fn brief_in(alloc: Global, row: &Row) -> Result<Option<StoredReply>, Error>
     }))
 }
 
-// The replies that shown rows give, where each row gives one. No error is one of the disk.
+// Returns the replies in the rows of the query, or `None` if a row has another shape. An error is
+// never a disk error.
 fn all_brief_in(alloc: Global, rows: Vec<Row>) -> Result<Option<Vec<StoredReply>>, Error>
     ensures { MatchResult result (λ found. MatchOption found (All IsBriefRow rows.items → ⊥)
         (λ all. All IsBriefRow rows.items × (all.items ≡ map brief_of rows.items)))
@@ -67,8 +69,8 @@ fn all_brief_in(alloc: Global, rows: Vec<Row>) -> Result<Option<Vec<StoredReply>
     Ok(Some(all))
 }
 
-// All replies without what was asked and what was answered, and whether no two have one rowid; none
-// where some row is no reply.
+// Returns all replies without their request bytes and bodies, and whether their rowids are
+// different. Returns `None` if a row isn't a reply.
 pub(crate) fn brief_replies<S: Alter>(
     conn: &mut Connection<S>,
 ) -> Result<Option<TableRows<StoredReply>>, Error>
@@ -99,8 +101,9 @@ pub(crate) fn brief_replies<S: Alter>(
     }))
 }
 
-/// The same rows with what was asked and what was answered, which is read anew; none where the
-/// tables hold other rows. Nothing is changed, and a crash leaves what it could leave before.
+/// Returns the rows `tables` with the request bytes and bodies of the replies, which it reads from
+/// the database. Returns `None` only if the database holds other rows. The database isn't changed,
+/// even by a crash.
 pub fn with_reply_bytes<S: Alter>(
     conn: &mut Connection<S>,
     mut tables: Tables,

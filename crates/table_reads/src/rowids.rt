@@ -1,4 +1,4 @@
-//! The rowids of shown rows, each row's first value.
+//! The rowids in the rows of a query, which are the first values of the rows.
 ghost use Rattle.std.specs.Prelude.{◌≡◌, ◌↔◌, IsPermutation, IsSortedByKey, IsTrue};
 ghost use Rattle.std.specs.Prelude.{MatchOption, OnOk};
 ghost use Rattle.std.specs.Ordering.{int_cmp};
@@ -12,7 +12,7 @@ use sqlite::Row;
 use sqlite::types::ValueRef;
 use std::alloc::AllocError;
 
-// The integer that a value is; 0 where it is none.
+// Returns the integer of `value`, or 0 if it isn't an integer.
 fn int_or_zero(value: ValueRef<'_>) -> i64
     ensures { result ≡ int_in (owned value.entry) }
 {
@@ -32,7 +32,8 @@ fn rowid_in(row: &Row) -> Option<i64>
     }
 }
 
-// Whether each rowid is an integer above the one before it, the first of them above this one.
+// Returns `true` if every rowid is an integer higher than the one before it, and the first is
+// higher than `floor`.
 fn is_rising_from(rows: &[Row], floor: i64) -> bool
     ensures { IsTrue result ↔ IsRisingFrom floor rows.now }
 {
@@ -63,7 +64,7 @@ pub(crate) fn are_rising(rows: &[Row]) -> bool
     }
 }
 
-// Sorts rows by their rowids. As they are read, they mostly stand so.
+// Sorts rows by their rowids. They usually have this order already when they are read.
 pub(crate) fn sort_rowids(rows: &mut Vec<Row>) -> Result<(), AllocError>
     ensures same { IsPermutation rows.old.items rows.new.items }
     ensures sorted { OnOk result (IsSortedByKey rowid_int int_cmp rows.new.items) }

@@ -1,4 +1,4 @@
-//! All tables are read, one after the other.
+//! Reads all tables, one after the other.
 ghost use Rattle.std.specs.Prelude.{◌≡◌, ◌&&◌, false, IfErr, IfOk, MatchOption};
 ghost use Rattle.sqlite.specs.Held.{state};
 ghost use Rattle.sqlite.specs.State.{HasCleanDisk, Survives};
@@ -17,15 +17,16 @@ use table_rows::{
     StoredRemake, StoredSession, StoredWord, Tables,
 };
 
-/// The rows of all tables but `version`.
+/// The rows of all tables except `version`.
 #[derive(Drop)]
 pub struct HeldRows {
     pub tables: Tables,
-    /// Whether no two rows of a table have one rowid.
+    /// Whether all rowids in each table are different.
     pub apart: bool,
 }
 
-// What was read of each table but `reply`; none where some row is none of its table's.
+// The rows of each table except `reply`. The rows are `None` if a row doesn't have the shape of its
+// table.
 #[derive(Drop)]
 struct Found {
     products: Option<TableRows<StoredProduct>>,
@@ -40,7 +41,7 @@ struct Found {
     marks: Option<TableRows<StoredMark>>,
 }
 
-// The rows of one more table, beside others whose rowids are apart or not.
+// Returns the rows of a table, and sets `apart` to `false` if their rowids aren't all different.
 fn rows_beside<T: Drop>(table: TableRows<T>, apart: &mut bool) -> Vec<T>
     ensures rows { result ≡ table.rows }
     ensures apart { apart.new ≡ apart.old && table.apart }
@@ -49,7 +50,7 @@ fn rows_beside<T: Drop>(table: TableRows<T>, apart: &mut bool) -> Vec<T>
     table.rows
 }
 
-// All tables but `reply`, where each was read.
+// Returns the rows of all tables except `reply`, if every table was read.
 fn gathered(alloc: Global, found: Found) -> Option<HeldRows>
     ensures { result ≡ held_of found.products found.lots found.batches found.records
         found.groupings found.sessions found.words found.blanks found.remakes found.marks }
@@ -71,7 +72,7 @@ fn gathered(alloc: Global, found: Found) -> Option<HeldRows>
     Some(HeldRows { tables, apart })
 }
 
-// The groupings, which each version keeps in a table of its own.
+// Reads the groupings. Version 3 has its own table for them.
 fn groupings<S: Alter>(
     conn: &mut Connection<S>,
     version: Version,
@@ -92,7 +93,7 @@ fn groupings<S: Alter>(
     }
 }
 
-// The marks, which version 1 has not.
+// Reads the release marks. Version 1 has no release marks.
 fn marks<S: Alter>(
     alloc: Global,
     conn: &mut Connection<S>,
@@ -118,7 +119,7 @@ fn marks<S: Alter>(
     }
 }
 
-// The rows of all tables but `version` and `reply`.
+// Reads the rows of all tables except `version` and `reply`.
 fn read_most<S: Alter>(
     alloc: Global,
     conn: &mut Connection<S>,
@@ -161,11 +162,12 @@ fn read_most<S: Alter>(
     ))
 }
 
-/// What the audit needs of all tables but `version`, where the tables are those of this version:
-/// their rows, in any order and with replies without what was asked and what was answered, and
-/// whether no two rows of a table have one rowid. None where they are not rows of sound contents,
-/// since some row is none of its table's. Nothing is changed, and a crash leaves what it could
-/// leave before.
+/// Reads the rows that the audit needs from the tables of `version`: all rows except the row of
+/// `version`, in any order, with replies without their request bytes and bodies, and whether all
+/// rowids in each table are different.
+///
+/// Returns `None` if a row doesn't have the shape of its table, so that the database can't hold
+/// sound contents. The database isn't changed, even by a crash.
 pub fn read_for_audit<S: Alter>(
     alloc: Global,
     conn: &mut Connection<S>,
@@ -191,9 +193,10 @@ pub fn read_for_audit<S: Alter>(
     Ok(Some(held))
 }
 
-/// The rows of all tables but `version`, in any order, where the tables are those of this version;
-/// none where they are not rows of sound contents, since some row is none of its table's.
-/// Nothing is changed, and a crash leaves what it could leave before.
+/// Reads the rows of all tables of `version` except the table `version`, in any order.
+///
+/// Returns `None` if a row doesn't have the shape of its table, so that the database can't hold
+/// sound contents. The database isn't changed, even by a crash.
 pub fn read_all<S: Alter>(
     alloc: Global,
     conn: &mut Connection<S>,

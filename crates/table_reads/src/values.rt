@@ -1,4 +1,4 @@
-//! The values of a shown row.
+//! The values in a row of a query.
 ghost use Rattle.std.specs.Prelude.{◌≡◌, ◌↔◌, ◌<◌, ◌^◌, false, IsTrue, MatchResult};
 ghost use Rattle.sqlite.specs.Order.{column};
 ghost use Rattle.sqlite.specs.State.{is_disk_error};
@@ -13,7 +13,7 @@ use sqlite::{Error, Row};
 use std::alloc::Global;
 use store_data::Enc;
 
-// The value in this column; NULL where there is none.
+// Returns the value of column `at`, or NULL if the row has no such column.
 pub(crate) fn value_at(row: &Row, at: usize) -> ValueRef<'_>
     ensures { owned result ≡ column row.now at }
 {
@@ -25,7 +25,7 @@ pub(crate) fn value_at(row: &Row, at: usize) -> ValueRef<'_>
 
 // ---- shapes
 
-// Whether the column has a number from 0 on.
+// Returns `true` if column `at` contains an integer of at least 0.
 pub(crate) fn is_number(row: &Row, at: usize) -> bool
     ensures { IsTrue result ↔ IsNumber (column row.now at) }
 {
@@ -35,14 +35,14 @@ pub(crate) fn is_number(row: &Row, at: usize) -> bool
     }
 }
 
-// Whether the column has a number below a limit.
+// Returns `true` if column `at` contains an integer from 0 to `limit` - 1.
 pub(crate) fn is_below(row: &Row, at: usize, limit: u64) -> bool
     ensures { IsTrue result ↔ IsBelow limit (column row.now at) }
 {
     is_number(row, at) && number_at(row, at) < limit
 }
 
-// Whether the column has a text.
+// Returns `true` if column `at` contains a text.
 pub(crate) fn is_text(row: &Row, at: usize) -> bool
     ensures { IsTrue result ↔ IsText (column row.now at) }
 {
@@ -52,7 +52,7 @@ pub(crate) fn is_text(row: &Row, at: usize) -> bool
     }
 }
 
-// Whether the column has bytes.
+// Returns `true` if column `at` contains a blob.
 pub(crate) fn is_blob(row: &Row, at: usize) -> bool
     ensures { IsTrue result ↔ IsBlob (column row.now at) }
 {
@@ -64,7 +64,7 @@ pub(crate) fn is_blob(row: &Row, at: usize) -> bool
 
 // ---- values
 
-// The number in this column; 0 where there is none.
+// Returns the number in column `at`, or 0 if it isn't an integer of at least 0.
 pub(crate) fn number_at(row: &Row, at: usize) -> u64
     ensures { result ≡ number_in (column row.now at) }
 {
@@ -74,7 +74,7 @@ pub(crate) fn number_at(row: &Row, at: usize) -> u64
     }
 }
 
-// The number below 2^8 in this column.
+// Returns the number in column `at`, which is below 2^8.
 pub(crate) fn byte_at(row: &Row, at: usize) -> u8
     ensures { number_in (column row.now at) < 256 → result ≡ number_in (column row.now at) }
 {
@@ -82,7 +82,7 @@ pub(crate) fn byte_at(row: &Row, at: usize) -> u8
     if n < 256 { n as u8 } else { 0 }
 }
 
-// The number below 2^16 in this column.
+// Returns the number in column `at`, which is below 2^16.
 pub(crate) fn short_at(row: &Row, at: usize) -> u16
     ensures { number_in (column row.now at) < 65536 → result ≡ number_in (column row.now at) }
 {
@@ -90,7 +90,7 @@ pub(crate) fn short_at(row: &Row, at: usize) -> u16
     if n < 65_536 { n as u16 } else { 0 }
 }
 
-// The number below 2^32 in this column.
+// Returns the number in column `at`, which is below 2^32.
 pub(crate) fn long_at(row: &Row, at: usize) -> u32
     ensures { number_in (column row.now at) < 2 ^ 32 → result ≡ number_in (column row.now at) }
 {
@@ -98,7 +98,7 @@ pub(crate) fn long_at(row: &Row, at: usize) -> u32
     if n < 4_294_967_296 { n as u32 } else { 0 }
 }
 
-// The mark that the number in this column stands for.
+// Returns the flag for the number in column `at`.
 pub(crate) fn flag_at(row: &Row, at: usize) -> bool
     ensures { number_in (column row.now at) < 2 → flag result ≡ number_in (column row.now at) }
 {
@@ -108,7 +108,7 @@ pub(crate) fn flag_at(row: &Row, at: usize) -> bool
     }
 }
 
-// The state of a record that the number in this column stands for.
+// Returns the record state for the number in column `at`.
 pub(crate) fn record_state_at(row: &Row, at: usize) -> RecordState
     ensures { number_in (column row.now at) < 5
         → record_code result ≡ number_in (column row.now at) }
@@ -122,7 +122,7 @@ pub(crate) fn record_state_at(row: &Row, at: usize) -> RecordState
     }
 }
 
-// The state of a session that the number in this column stands for.
+// Returns the session state for the number in column `at`.
 pub(crate) fn session_state_at(row: &Row, at: usize) -> SessionState
     ensures { number_in (column row.now at) < 3
         → session_code result ≡ number_in (column row.now at) }
@@ -134,7 +134,7 @@ pub(crate) fn session_state_at(row: &Row, at: usize) -> SessionState
     }
 }
 
-// The encipherment mark that the number in this column stands for.
+// Returns the encryption for the number in column `at`.
 pub(crate) fn enc_at(row: &Row, at: usize) -> Enc
     ensures { number_in (column row.now at) < 3 → enc_code result ≡ number_in (column row.now at) }
 {
@@ -156,8 +156,8 @@ fn bytes_of(alloc: Global, value: ValueRef<'_>) -> Result<Vec<u8>, Error>
     }
 }
 
-// The bytes in this column; none where there is neither a text nor a blob. No error is one of the
-// disk.
+// Returns the bytes in column `at`, or no bytes if it is neither a text nor a blob. An error is
+// never a disk error.
 pub(crate) fn bytes_at(alloc: Global, row: &Row, at: usize) -> Result<Vec<u8>, Error>
     ensures { MatchResult result (λ bytes. bytes.items ≡ bytes_in (column row.now at))
         (λ e. is_disk_error e ≡ false) }

@@ -1,4 +1,4 @@
-//! The row of `version` is read.
+//! Reads the row of `version`.
 ghost use Rattle.std.specs.Prelude.{◌≡◌, ◌↔◌, ℕ, [], ◌∷◌, false, true, IfErr, IfOk};
 ghost use Rattle.std.specs.Prelude.{IsPermutation, IsTrue};
 ghost use Rattle.sqlite.specs.Held.{state};
@@ -41,7 +41,7 @@ fn is_version_alone(rows: &[Row], version: u64) -> bool
     }
 }
 
-// Whether `version` has one row, which says this version.
+// Returns `true` if `version` has exactly one row, with the number `version`.
 fn says_version<S: Alter>(conn: &mut Connection<S>, version: u64) -> Result<bool, Error>
     requires { conn.old.in_transaction ≡ false }
     ensures value { HasCleanDisk (state S.Store conn.new) → IfOk result
@@ -70,8 +70,9 @@ fn number(version: Version) -> u64
     }
 }
 
-/// Whether `version` has one row, which says this version, where its tables stand. Nothing is
-/// changed, and a crash leaves what it could leave before.
+/// Returns `true` if the table `version` has exactly one row, with the number of `version`. The
+/// result is meaningful only if the database has the tables of that version. The database isn't
+/// changed, even by a crash.
 pub fn says<S: Alter>(conn: &mut Connection<S>, version: Version) -> Result<bool, Error>
     requires { conn.old.in_transaction ≡ false }
     ensures value { HasCleanDisk (state S.Store conn.new) → IfOk result

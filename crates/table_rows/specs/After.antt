@@ -1,4 +1,4 @@
--- The rows after what is written with a reply.
+-- The rows after a `Writing` and its reply.
 use Rattle.std.specs.Prelude.{◌+◌, ◌-◌, ℕ, true, false, List, ◌++◌, map, bytes_eq}
 use Rattle.std.specs.List.{enumerate_from, position_or_len}
 use Rattle.store_data.specs.Cursor.{select_cursor}
@@ -21,7 +21,7 @@ use Rattle.table_rows.specs.Tables.{StoredBatch, StoredGrouping, StoredLot, Stor
 
 -- ---- counters
 
--- one record less stands so
+-- the counters after removing a record in this state
 abbrev pub less : RecordState → BatchTotals → BatchTotals
 less rec.Waiting n = record n { waiting = n.waiting - 1 }
 less rec.Running n = record n { running = n.running - 1 }
@@ -29,7 +29,7 @@ less rec.Failed n = record n { failed = n.failed - 1 }
 less rec.Withdrawn n = record n { withdrawn = n.withdrawn - 1 }
 less rec.Good n = record n { good = n.good - 1 }
 
--- and one more so
+-- the counters after adding a record in this state
 abbrev pub more : RecordState → BatchTotals → BatchTotals
 more rec.Waiting n = record n { waiting = n.waiting + 1 }
 more rec.Running n = record n { running = n.running + 1 }
@@ -37,25 +37,28 @@ more rec.Failed n = record n { failed = n.failed + 1 }
 more rec.Withdrawn n = record n { withdrawn = n.withdrawn + 1 }
 more rec.Good n = record n { good = n.good + 1 }
 
--- one more session is opened
+-- the counters after adding a session
 abbrev pub one_opened : BatchTotals → BatchTotals
 one_opened n = record n { sessions = n.sessions + 1 }
 
--- one more session is spoiled
+-- the counters after adding a spoiled session
 abbrev pub one_spoiled : BatchTotals → BatchTotals
 one_spoiled n = record n { spoiled = n.spoiled + 1 }
 
--- ---- a record that passes to another state
+-- ---- a record that changes its state
 
--- the record stands so, and its batch has these counters
+-- the rows after record `p` gets `state`, `spoiled` and `remakes`, and its batch gets the counters
+-- `totals`
 abbrev pub record_after : RecordPlace → RecordState → ℕ → ℕ → BatchTotals → Tables → Tables
 record_after p state spoiled remakes totals t = with_totals_set p.batch totals (with_record_set p.batch p.place state spoiled remakes t)
 
--- from this state to that one, with no more sessions spoiled, and no more remakes
+-- the rows after record `p` changes from `was` to `state`, with the same numbers of spoiled
+-- sessions and remakes
 abbrev pub passed : RecordPlace → RecordState → RecordState → Tables → Tables
 passed p was state t = record_after p state p.spoiled p.remakes (more state (less was p.totals)) t
 
--- its session runs no more
+-- the rows after the running session of record `p` changes to the given state. A session that is
+-- still running changes nothing.
 abbrev pub stopped : RecordPlace → SessionState → Tables → Tables
 stopped p session.Running t = t
 stopped p session.Good t = passed p rec.Running rec.Good t
@@ -63,11 +66,11 @@ stopped p session.Spoiled t = record_after p rec.Failed (p.spoiled + 1) p.remake
 
 -- ---- new rows
 
--- none of its blanks is discarded
+-- a new lot has no discarded blanks
 abbrev pub new_lot : Lot → StoredLot
 new_lot l = record { lot = l; discarded = 0 }
 
--- all its records wait
+-- a new batch, whose records are all waiting
 abbrev pub new_batch : ℕ → List ℕ → List ℕ → List ℕ → ℕ → StoredBatch
 new_batch id name product raw records = record {
   id = id;
@@ -87,7 +90,8 @@ new_batch id name product raw records = record {
 abbrev pub new_record : ℕ → ℕ × List ℕ → StoredRecord
 new_record batch r = record { batch = batch; place = r.0; name = r.1; state = rec.Waiting; spoiled = 0; remakes = 0 }
 
--- the row of a batch file with this row number, where these are the names of the file's records
+-- the row of `grouping2` for a row of a batch file with its row number. `names` are the names of
+-- the file's records.
 abbrev pub new_grouping : ℕ → List (List ℕ) → ℕ × Row → StoredGrouping
 new_grouping batch names row = record {
   batch = batch;
@@ -100,7 +104,8 @@ new_grouping batch names row = record {
   coded = row.1.coded;
 }
 
--- a batch with so many records, its records and its groupings; row 1 of its file is the header
+-- the rows after an import: a batch with its records and groupings. Row numbers begin with 2,
+-- because row 1 of the file is the header.
 abbrev pub batch_rows_after : ℕ → List ℕ → List ℕ → List ℕ → ℕ → List Row → Tables → Tables
 batch_rows_after id name product raw records rows t =
     let names = first_appearances (map (λ (row : Row). row.rec) rows) in
@@ -109,7 +114,7 @@ batch_rows_after id name product raw records rows t =
       groupings = map (new_grouping id names) (enumerate_from 2 rows) ++ t.groupings;
     })
 
--- its card is at the first SELECT
+-- a new session, whose cursor is at the first SELECT
 abbrev pub new_session : ℕ → RecordPlace → List ℕ → ℕ → StoredSession
 new_session id p machine blank = record {
   id = id;
@@ -123,20 +128,21 @@ new_session id p machine blank = record {
   cursor = select_cursor 0;
 }
 
--- a session on a blank of its own, whose record no longer waits
+-- the rows after a waiting record gets a running session, which charges its blank
 abbrev pub session_rows_after : NewSession → RecordPlace → Tables → Tables
 session_rows_after s p t =
     record_after p rec.Running p.spoiled p.remakes (one_opened (more rec.Running (less rec.Waiting p.totals)))
     (with_blank (record { serial = s.blank; lot = s.lot; discarded = false }) (with_session (new_session s.number p s.machine s.blank) t))
 
--- a word after which its session stands so
+-- the rows after a status word, with its session in the state `stands`
 abbrev pub word_rows_after : NewWord → SessionState → Tables → Tables
 word_rows_after w stands t =
     with_session_set w.session stands (w.index + 1) w.cursor (with_word (record { session = w.session; place = w.index; sw = w.sw }) t)
 
--- ---- all that is written
+-- ---- all rows that are written
 
--- but for the reply; a batch file without a fault has the rows that come of it, and no others
+-- the rows after a `Writing` without its reply. An import of a batch file without a fault adds
+-- exactly the rows that the file produces.
 abbrev pub rows_after : Writing → Tables → Tables
 rows_after writing.Nothing t = t
 rows_after (writing.AddsProduct p) t = with_product p t
@@ -154,6 +160,6 @@ rows_after (writing.Withdraws was p) t = passed p was rec.Withdrawn t
 rows_after (writing.Closes b) t = with_closed_set b t
 rows_after (writing.Releases client upto) t = with_mark (record { client = client; upto = upto }) (without_mark client (without_replies client upto t))
 
--- and with it
+-- the rows after a `Writing` with its reply
 abbrev pub rows_written : Writing → Entry → Tables → Tables
 rows_written w entry t = with_reply entry (rows_after w t)

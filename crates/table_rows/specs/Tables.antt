@@ -1,5 +1,5 @@
--- The rows of the store's tables as plain lists, one for each table. Rows of a table stand in any
--- order.
+-- The rows of the store's tables as one plain list for each table. The order of rows doesn't
+-- matter.
 use Rattle.std.specs.Prelude.{◌≡◌, ◌+◌, ◌==◌, ◌&&◌, ℕ, Bool, true, false, not, nat_le, if◌then◌else◌, List, [], ◌∷◌, map, filter, bytes_eq, All, AllPairs, IsPermutation}
 use Rattle.store_data.specs.declared.cursor.Cursor.{Cursor}
 use Rattle.store_data.specs.declared.row.Enc.{Enc}
@@ -11,12 +11,13 @@ use Rattle.job_facts.specs.declared.facts.SessionState.TheVariants as session
 use Rattle.job_facts.specs.declared.rows.BatchTotals.{BatchTotals}
 use Rattle.job_facts.specs.Contents.{Entry, Mark, has_mark}
 
--- a row of `lot`: with how many of its blanks are discarded
+-- a row of `lot`, with the number of discarded blanks
 pub record StoredLot : Type 0 where
   pub lot : Lot
   pub discarded : ℕ
 
--- a row of `batch`: with how its records and its sessions stand
+-- a row of `batch`, with the numbers of its records in each state, of its sessions, and of its
+-- spoiled sessions
 pub record StoredBatch : Type 0 where
   pub id : ℕ
   pub name : List ℕ
@@ -31,7 +32,8 @@ pub record StoredBatch : Type 0 where
   pub sessions : ℕ
   pub spoiled : ℕ
 
--- the counters of a batch; each of its records has one of the five states
+-- the counters of a batch. Each record has one of the five states, so the number of records is
+-- their sum.
 abbrev pub totals_of : StoredBatch → BatchTotals
 totals_of b = record {
   records = b.waiting + b.running + b.failed + b.withdrawn + b.good;
@@ -44,8 +46,7 @@ totals_of b = record {
   spoiled = b.spoiled;
 }
 
--- a row of `record`: with how it stands, how many of its sessions are spoiled, and how often it was
--- remade
+-- a row of `record`, with its state and the numbers of spoiled sessions and remakes
 pub record StoredRecord : Type 0 where
   pub batch : ℕ
   pub place : ℕ
@@ -54,7 +55,7 @@ pub record StoredRecord : Type 0 where
   pub spoiled : ℕ
   pub remakes : ℕ
 
--- a row of `grouping2`: the row of a batch file with this row number, for the record at this place
+-- a row of `grouping2`: row `line` of the batch file, for the record at position `place`
 pub record StoredGrouping : Type 0 where
   pub batch : ℕ
   pub line : ℕ
@@ -65,7 +66,7 @@ pub record StoredGrouping : Type 0 where
   pub tol : Bool
   pub coded : List ℕ
 
--- a row of `session`: with how it stands, how many words it has, and where its card stands
+-- a row of `session`, with its state, the number of status words, and the cursor of its card
 pub record StoredSession : Type 0 where
   pub id : ℕ
   pub machine : List ℕ
@@ -83,7 +84,7 @@ pub record StoredWord : Type 0 where
   pub place : ℕ
   pub sw : ℕ
 
--- a row of `blank`: a charged one, opened or discarded
+-- a row of `blank`: a charged blank, opened or discarded
 pub record StoredBlank : Type 0 where
   pub serial : ℕ
   pub lot : List ℕ
@@ -95,7 +96,8 @@ pub record StoredRemake : Type 0 where
   pub place : ℕ
   pub turn : ℕ
 
--- the rows of each table; those of `product`, `reply` and `mark` have nothing beside the facts
+-- the rows of each table. The rows of `product`, `reply` and `mark` have the same columns as the
+-- values in the contents of a store.
 pub record Tables : Type 0 where
   pub products : List Product
   pub lots : List StoredLot
@@ -109,7 +111,7 @@ pub record Tables : Type 0 where
   pub replies : List Entry
   pub marks : List Mark
 
--- each batch with this id has these counters
+-- Every batch with the id `id` has the counters `totals`.
 abbrev pub HasTotals : ℕ → BatchTotals → Tables → Type 0
 HasTotals id totals t = All (λ (b : StoredBatch). b.id ≡ id → totals_of b ≡ totals) t.batches
 
@@ -128,7 +130,7 @@ no_rows = record {
   marks = [];
 }
 
--- the same rows in each table
+-- Each table of `t` has the same rows as the table of `u`, in any order.
 pub record HaveSameRows (t u : Tables) : Type 0 where
   pub products : IsPermutation t.products u.products
   pub lots : IsPermutation t.lots u.lots
@@ -142,11 +144,11 @@ pub record HaveSameRows (t u : Tables) : Type 0 where
   pub replies : IsPermutation t.replies u.replies
   pub marks : IsPermutation t.marks u.marks
 
--- at most one of them passes
+-- At most one element of the list passes the test.
 abbrev pub PassesOnce : {X : Type 0} → (X → Bool) → List X → Type 0
 PassesOnce passes xs = AllPairs (λ x y. passes x ≡ true → passes y ≡ false) xs
 
--- ---- one more row
+-- ---- an added row
 
 abbrev pub with_product : Product → Tables → Tables
 with_product p t = record t { products = p ∷ t.products }
@@ -181,16 +183,16 @@ with_reply e t = record t { replies = e ∷ t.replies }
 abbrev pub with_mark : Mark → Tables → Tables
 with_mark m t = record t { marks = m ∷ t.marks }
 
--- ---- rows that change
+-- ---- changed rows
 
--- the lot of this name has so many discarded blanks
+-- the lot, with `discarded` discarded blanks if its name is `name`
 abbrev pub lot_set : List ℕ → ℕ → StoredLot → StoredLot
 lot_set name discarded l = if bytes_eq l.lot.name name then record l { discarded = discarded } else l
 
 abbrev pub with_lot_set : List ℕ → ℕ → Tables → Tables
 with_lot_set name discarded t = record t { lots = map (lot_set name discarded) t.lots }
 
--- the batch with this id has these counters
+-- the batch, with the counters `totals` if its id is `id`
 abbrev pub totals_set : ℕ → BatchTotals → StoredBatch → StoredBatch
 totals_set id totals b =
     if b.id == id then record b {
@@ -206,15 +208,15 @@ totals_set id totals b =
 abbrev pub with_totals_set : ℕ → BatchTotals → Tables → Tables
 with_totals_set id totals t = record t { batches = map (totals_set id totals) t.batches }
 
--- the batch of this name is closed
+-- the batch, closed if its name is `name`
 abbrev pub closed_set : List ℕ → StoredBatch → StoredBatch
 closed_set name b = if bytes_eq b.name name then record b { closed = true } else b
 
 abbrev pub with_closed_set : List ℕ → Tables → Tables
 with_closed_set name t = record t { batches = map (closed_set name) t.batches }
 
--- the record at this place of this batch stands so, with so many spoiled sessions, and was remade
--- so often
+-- the record, with the state `state` and the numbers `spoiled` and `remakes` if it is at position
+-- `place` of the batch with id `batch`
 abbrev pub record_set : ℕ → ℕ → RecordState → ℕ → ℕ → StoredRecord → StoredRecord
 record_set batch place state spoiled remakes r =
     if (r.batch == batch) && (r.place == place) then record r { state = state; spoiled = spoiled; remakes = remakes } else r
@@ -222,23 +224,24 @@ record_set batch place state spoiled remakes r =
 abbrev pub with_record_set : ℕ → ℕ → RecordState → ℕ → ℕ → Tables → Tables
 with_record_set batch place state spoiled remakes t = record t { records = map (record_set batch place state spoiled remakes) t.records }
 
--- the session with this id stands so, has so many words, and its card stands there
+-- the session, with the state `state`, `words` status words and the cursor `cursor` if its id is
+-- `id`
 abbrev pub session_set : ℕ → SessionState → ℕ → Cursor → StoredSession → StoredSession
 session_set id state words cursor s = if s.id == id then record s { state = state; words = words; cursor = cursor } else s
 
 abbrev pub with_session_set : ℕ → SessionState → ℕ → Cursor → Tables → Tables
 with_session_set id state words cursor t = record t { sessions = map (session_set id state words cursor) t.sessions }
 
--- the session with this id was ended, and so is spoiled
+-- the session, ended and therefore spoiled if its id is `id`
 abbrev pub end_set : ℕ → StoredSession → StoredSession
 end_set id s = if s.id == id then record s { state = session.Spoiled; ended = true } else s
 
 abbrev pub with_end_set : ℕ → Tables → Tables
 with_end_set id t = record t { sessions = map (end_set id) t.sessions }
 
--- ---- rows that go
+-- ---- removed rows
 
--- it is kept under a number of this client's, up to this one
+-- The reply is kept under a request number of `client` up to `upto`.
 abbrev pub is_released : List ℕ → ℕ → Entry → Bool
 is_released client upto e = bytes_eq e.client client && nat_le e.number upto
 

@@ -1,7 +1,7 @@
-//! A reply that is kept.
+//! A kept reply.
 use store_data::Name;
 
-/// A reply that is kept under its client's number, with the ask that it answers.
+/// A kept reply, with its client, its request number and the request bytes (`ask`).
 #[derive(Clone, Copy)]
 pub struct Entry<'a> {
     pub client: &'a Name,

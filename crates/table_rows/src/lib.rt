@@ -1,5 +1,7 @@
-//! The rows of the store's tables, as they are read whole: what a damaged file may have too. And
-//! what is written of them.
+//! The rows of the store's tables, and the writes that change them.
+//!
+//! The rows have the types of their columns, but no other condition is checked: a damaged file can
+//! contain them too.
 #![tactic(auto)]
 
 pub mod entry;

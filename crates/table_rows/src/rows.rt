@@ -1,4 +1,4 @@
-//! The rows of the store's tables, as they are read: names and bytes may be any.
+//! The rows of the store's tables as they are read. Names and byte strings can have any contents.
 
 use job_facts::{RecordState, SessionState};
 use std::marker::Model;
@@ -197,7 +197,7 @@ impl Model for StoredWord {
     ghost view = { λ w. record { session = w.session; place = w.place; sw = w.sw } };
 }
 
-/// A row of `blank`: a charged one, opened or discarded.
+/// A row of `blank`: a charged blank, opened or discarded.
 #[derive(Drop)]
 pub struct StoredBlank {
     pub serial: u64,

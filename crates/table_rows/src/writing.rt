@@ -1,27 +1,27 @@
-//! What is written with a reply, and how what it touches stood before it.
+//! The write that is stored together with a reply.
 use job_facts::{BatchTotals, Lot, NewBatch, NewSession, NewWord, RecordState, SessionState};
 use store_data::{Name, Product};
 
-/// Where a record stands in its tables, and how.
+/// A record, with the numbers that a write needs from before the change.
 #[derive(Clone, Copy)]
 pub struct RecordPlace {
-    /// The id of its batch.
+    /// The id of the batch.
     pub batch: u64,
-    /// Its place among the records of its batch, from 0.
+    /// The position of the record in its batch, from 0.
     pub place: u64,
-    /// How many of its sessions are spoiled.
+    /// The number of spoiled sessions.
     pub spoiled: u64,
-    /// How often it was remade.
+    /// The number of remakes.
     pub remakes: u64,
-    /// How its batch stands.
+    /// The counters of the batch.
     pub totals: BatchTotals,
 }
 
-/// What is written with a reply: a change of the facts, with how what it touches stood before it,
-/// or a release.
+/// The write that is stored together with a reply: a change of the facts, or a release. A variant
+/// also has the values that it needs from the rows before the change.
 #[derive(Clone, Copy)]
 pub enum Writing<'a> {
-    /// The reply alone.
+    /// No change: only the reply is stored.
     Nothing,
     AddsProduct {
         product: Product,
@@ -34,20 +34,20 @@ pub enum Writing<'a> {
     },
     Opens {
         session: NewSession,
-        /// Its record, which waits.
+        /// The record of the session, which is waiting.
         place: RecordPlace,
     },
-    /// A word after which its session runs on.
+    /// A status word after which the session is still running.
     AddsWord {
         word: NewWord,
     },
-    /// A word after which its session stands so, and runs no more.
+    /// A status word after which the session has the state `stands` and is no longer running.
     AddsLastWord {
         word: NewWord,
         stands: SessionState,
         place: RecordPlace,
     },
-    /// A session is ended by a reset.
+    /// The end of a session by an `abort` or a `reset`.
     Ends {
         session: u64,
         place: RecordPlace,
@@ -56,21 +56,21 @@ pub enum Writing<'a> {
         blank: u64,
         /// The name of the blank's lot.
         lot: Name,
-        /// How many blanks of the lot are discarded before it.
+        /// The number of discarded blanks of the lot before this one.
         discarded: u64,
     },
     Remakes {
         place: RecordPlace,
     },
     Withdraws {
-        /// Waiting or failed.
+        /// The state before the withdrawal: waiting or failed.
         was: RecordState,
         place: RecordPlace,
     },
     Closes {
         batch: Name,
     },
-    /// The client's numbers are released up to this one.
+    /// The release of the request numbers of `client` up to `upto`.
     Releases {
         client: Name,
         upto: u64,

@@ -1,13 +1,13 @@
-//! Exchanges by what differs in them: the bodies of requests and replies are compact JSON.
+//! Macros for exchanges and for the bodies of requests and replies, which are compact JSON.
 
-/// The request is accepted, and this is its reply's body.
+/// An exchange whose request is accepted with the reply body `$body`.
 macro_rules! accepted {
     ($target:expr, $asked:expr, $body:expr) => {
         $crate::exchanges::Exchange($target, $asked, 200, $body)
     };
 }
 
-/// The request is refused by this code and name.
+/// An exchange whose request is refused with the code `$code` and the name `$name`.
 macro_rules! refused {
     ($target:expr, $asked:expr, $code:literal, $name:literal) => {
         $crate::exchanges::Exchange(
@@ -19,7 +19,8 @@ macro_rules! refused {
     };
 }
 
-/// A product whose records are not checked, and the most data bytes of a command.
+/// The body of a request that registers a product without the EMV record check. `$max` is the
+/// maximum number of data bytes in a STORE DATA command.
 macro_rules! product {
     ($name:literal, $max:literal) => {
         concat!(
@@ -30,7 +31,7 @@ macro_rules! product {
     };
 }
 
-/// A lot of so many blanks from a serial on.
+/// The body of a request that registers a lot of `$count` blanks, from serial `$first`.
 macro_rules! lot {
     ($name:literal, $product:literal, $first:literal, $count:literal) => {
         concat!(
@@ -43,14 +44,14 @@ macro_rules! lot {
     };
 }
 
-/// A product or a lot was made.
+/// The body of the reply to a request that registers a product or a lot.
 macro_rules! made {
     ($what:literal, $name:literal) => {
         concat!(r#"{""#, $what, r#"":""#, $name, r#"","result":"created"}"#)
     };
 }
 
-/// A batch was made, of so many records with a row each.
+/// The body of the reply to an import that creates a batch with `$count` records of one row each.
 macro_rules! imported {
     ($batch:literal, $count:literal) => {
         concat!(
@@ -62,14 +63,14 @@ macro_rules! imported {
     };
 }
 
-/// A machine takes a blank for a batch.
+/// The body of a request that opens a session of the batch `$batch` on the blank `$blank`.
 macro_rules! open {
     ($batch:literal, $blank:literal) => {
         concat!(r#"{"do":"open","batch":""#, $batch, r#"","blank":"#, $blank, "}")
     };
 }
 
-/// The record that the blank is for, with its first command.
+/// The body of the reply to `open`, with the record and its first command.
 macro_rules! opened {
     ($batch:literal, $blank:literal, $record:literal, $session:literal) => {
         concat!(
@@ -82,7 +83,7 @@ macro_rules! opened {
     };
 }
 
-/// What a card answers to a command.
+/// The body of a request that reports the status word `$sw` for the command `$index`.
 macro_rules! answer {
     ($session:literal, $index:literal, $sw:literal) => {
         concat!(
@@ -94,7 +95,7 @@ macro_rules! answer {
     };
 }
 
-/// The next command of a session.
+/// The body of a reply with the next command of a session.
 macro_rules! command {
     ($command:literal, $index:literal, $session:literal) => {
         concat!(
@@ -106,7 +107,7 @@ macro_rules! command {
     };
 }
 
-/// How a session ended.
+/// The body of a reply with the result of a session that ended.
 macro_rules! ended {
     ($result:literal, $session:literal) => {
         concat!(r#"{"result":""#, $result, r#"","session":"#, $session, "}")

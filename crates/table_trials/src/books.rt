@@ -1,4 +1,4 @@
-//! The shop's book of a sound database, of each version: each question has its answer.
+//! Tests that every subcommand of `shopbook` succeeds for a sound database of each schema version.
 ghost use Rattle.book_file.specs.Found.{HasVerdict};
 
 use crate::exchanges::at_last;
@@ -14,7 +14,7 @@ use std::test::Fail;
 use store_data::Name;
 use subcommands::End;
 
-// All questions.
+// Returns all subcommands.
 fn asks() -> Result<[Ask; 6], Fail> {
     let batch = Name::new(b"B1").ok_or("no name")?;
     let product = Name::new(b"P1").ok_or("no name")?;
@@ -31,7 +31,7 @@ fn asks() -> Result<[Ask; 6], Fail> {
     ])
 }
 
-// A question has its answer, in columns or in JSON.
+// Checks that a subcommand succeeds, with columns or, if `json` is true, with JSON.
 fn check_answer(
     rt: &impl Abort,
     alloc: Global,
@@ -54,7 +54,7 @@ fn check_answer(
     Ok(())
 }
 
-// Each question has its answer.
+// Checks every subcommand.
 fn check_answers(rt: &impl Abort, alloc: Global, book: &Book) -> Result<(), Fail>
     requires { HasVerdict book.now.tables book.now.failing }
 {
@@ -66,7 +66,7 @@ fn check_answers(rt: &impl Abort, alloc: Global, book: &Book) -> Result<(), Fail
     Ok(())
 }
 
-// So is it with the book of a database of this version.
+// Checks every subcommand for a database of this version.
 fn check_book(rt: &impl Abort, alloc: Global, version: &Version) -> Result<(), Fail> {
     let (_, mut conn) = turned(rt, alloc, version, tables(alloc)?)?;
     if !conn.is_autocommit() {

@@ -1,5 +1,6 @@
-//! Files of earlier versions, taken up and served: what was answered gets its reply again, a kept
-//! refusal stays, a card more is made, and the batches are reported.
+//! Tests that a store in files of an earlier schema version works as before. Requests that had
+//! replies get the same replies again, even a refusal. A new card is made, and the batches are
+//! reported.
 use crate::bodies::{accepted, answer, command, ended, imported, open, opened};
 use crate::disks::{Ended, Left, close, nothing, open};
 use crate::exchanges::Exchange;
@@ -17,7 +18,7 @@ use store_data::Name;
 
 const MIXED: &str = "record,aid,rank,enc,tol,dgi\nR1,F00000000101,1,2,0,9002021122\n";
 
-// The import was refused for its mark, which these versions don't know.
+// An import that was refused because its `enc` is 2, which these versions don't know.
 const REFUSED: Exchange = Exchange(
     "/c/office/6/batch/B2/P1",
     MIXED,
@@ -25,10 +26,10 @@ const REFUSED: Exchange = Exchange(
     r#"{"code":35,"refused":"mark","row":2}"#,
 );
 
-// The ask under which it is kept.
+// The request bytes of `REFUSED`.
 const ASK: &[u8] = b"/batch/B2/P1\0record,aid,rank,enc,tol,dgi\nR1,F00000000101,1,2,0,9002021122\n";
 
-// The same import under a new number, and its card.
+// The same import under a new request number, and its card.
 const ANEW: [Exchange; 4] = [
     accepted!("/c/office/7/batch/B2/P1", MIXED, imported!("B2", 1)),
     accepted!("/c/m1/7", open!("B2", 1002), opened!("B2", 1002, "R1", 3)),
@@ -75,16 +76,16 @@ spoiled            0
     ),
 ];
 
-// The steps over files.
+// A part of the test, which works on files.
 #[derive(Clone, Copy)]
 enum Part {
-    // Tables of a version are made in them.
+    // Creates tables of a version.
     Made,
-    // They are taken up, and served.
+    // Opens the store and sends requests to it.
     Served,
 }
 
-// A database of a version, in which the refusal is kept.
+// Creates a database of a version in which the refusal is kept.
 fn made<S: Alter + Drop>(
     rt: &impl Abort,
     alloc: Global,
@@ -100,7 +101,8 @@ fn made<S: Alter + Drop>(
     Ok(conn)
 }
 
-// The set-up sent again: its replies where its numbers were released, and where they weren't.
+// Returns the exchanges of the set-up with the replies to their repeats, which depend on whether
+// their request numbers are released.
 fn set_up_again(version: &Version) -> [Exchange; 3] {
     let mut again = SET_UP;
     if !version.asked.is_empty() {
@@ -111,7 +113,7 @@ fn set_up_again(version: &Version) -> [Exchange; 3] {
     again
 }
 
-// A store that was taken up from a database of a version serves as it did, and reports.
+// Checks the replies and the reports of a store that was opened from a database of a version.
 fn check_served<S: JobStore>(
     rt: &impl Abort,
     alloc: Global,
@@ -144,7 +146,7 @@ fn served<S: Alter + Drop>(
     Ok(store.close())
 }
 
-// Opens files that hold this, does a part, and closes them.
+// Opens files with the contents `left`, performs a part of the test, and closes them.
 fn over_files(
     rt: &impl Abort,
     alloc: Global,

@@ -1,5 +1,5 @@
-//! Why a file is not taken that isn't there, or that is no database of ours; nor read for its book.
-//! Each test has a folder of its own on the disk. Where memory is refused, it ends and says so.
+//! The causes why a file isn't opened or read: it doesn't exist, or isn't a database of `persod`.
+//! Each test has its own folder on the disk. If an allocation fails, the test ends with a message.
 use book_file::book_in;
 use file_causes::Difference;
 use job_facts::{ServerStore, StoreFault};
@@ -15,7 +15,7 @@ use std::test::Fail;
 use std::{env, fs, process};
 use store_files::{Found, Place, StoreTask, place_of, with_store};
 
-// Closes the store, and says how its file was found.
+// Closes the store, and returns the state in which its file was found.
 #[derive(Drop)]
 struct Closed;
 
@@ -36,7 +36,7 @@ impl StoreTask for Closed {
     }
 }
 
-/// A folder of this process and this test alone.
+/// Creates a folder for this process and this test, and returns its path.
 pub(crate) fn folder_of(rt: &HostRuntime, name: &str) -> io::Result<String> {
     let folder = env::temp_dir(rt)?;
     let (folder, number) = (folder.as_str(), process::id(rt.process()));
@@ -45,18 +45,18 @@ pub(crate) fn folder_of(rt: &HostRuntime, name: &str) -> io::Result<String> {
     Ok(path)
 }
 
-/// The path of a file in a folder.
+/// Returns the path of a file in a folder.
 pub(crate) fn within(rt: &HostRuntime, folder: &str, name: &str) -> Result<String, AllocError> {
     format!(in rt.alloc(); "{folder}/{name}")
 }
 
-/// Makes a file that holds these bytes.
+/// Creates a file with the given bytes.
 pub(crate) fn write(rt: &HostRuntime, path: &str, bytes: &[u8]) -> io::Result<()> {
     let mut file = fs::create(rt, path)?;
     file.write_all(bytes)
 }
 
-// Why what was done with a file answers that it isn't ours.
+// Returns the cause in a refusal 81. Any other result is an error.
 fn cause_of<T: Drop>(answer: Result<T, FileFault>) -> Result<Cause, Fail> {
     match answer {
         Err(FileFault::NotOurs { cause }) => Ok(cause),
@@ -65,18 +65,18 @@ fn cause_of<T: Drop>(answer: Result<T, FileFault>) -> Result<Cause, Fail> {
     }
 }
 
-// Why a file is not taken.
-fn cause_at(rt: &HostRuntime, path: &str, wanted: Wanted) -> Result<Cause, Fail> {
+/// Returns the cause why a file isn't opened.
+pub(crate) fn cause_at(rt: &HostRuntime, path: &str, wanted: Wanted) -> Result<Cause, Fail> {
     cause_of(with_store(rt, path, Unknown, wanted, Closed))
 }
 
-/// Returns why a file is not read for its book.
+/// Returns the cause why `book_in` doesn't read a file.
 pub(crate) fn book_cause_at(rt: &HostRuntime, path: &str) -> Result<Cause, Fail> {
     cause_of(book_in(rt, path, Unknown).0)
 }
 
-// How a file is found.
-fn found_at(rt: &HostRuntime, path: &str, wanted: Wanted) -> Result<Found, FileFault> {
+/// Returns the state in which a file is found.
+pub(crate) fn found_at(rt: &HostRuntime, path: &str, wanted: Wanted) -> Result<Found, FileFault> {
     Ok(with_store(rt, path, Unknown, wanted, Closed)??)
 }
 
@@ -167,18 +167,18 @@ fn a_file_is_found_new_once(rt: HostRuntime) -> Result<(), Fail> {
     Ok(())
 }
 
-/// The mode of the file at `path`: who may read, write and run it.
+/// Returns the mode of the file at `path`: its nine permission bits.
 pub(crate) fn mode_of(rt: &HostRuntime, path: &str) -> io::Result<u32> {
     Ok(fs::metadata(rt, path)?.mode() & 0o777)
 }
 
-/// Gives the file at `path` this mode.
+/// Sets the mode of the file at `path`.
 pub(crate) fn set_mode(rt: &HostRuntime, path: &str, mode: u32) -> io::Result<()> {
     fs::open(rt, path)?.set_permissions(Permissions::from_mode(mode))
 }
 
-// The file holds card data, so only its owner may read it, and its log. One that is there keeps its
-// mode, even if it is empty, and its log gets that.
+// A file has card data, so only its owner may read it and its WAL. An existing file keeps its mode,
+// even if it is empty, and its WAL gets the same mode.
 #[test]
 fn a_new_file_is_private(rt: HostRuntime) -> Result<(), Fail> {
     let folder = folder_of(&rt, "private")?;

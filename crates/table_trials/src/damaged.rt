@@ -1,4 +1,4 @@
-//! Databases that are refused, each a sound one with one thing changed: it stays as it is.
+//! Tests that databases with one difference from a sound database are refused and don't change.
 use crate::bodies::{accepted, ended, imported, lot, made, open, opened};
 use crate::exchanges::Exchange;
 use crate::refused::tables;
@@ -17,12 +17,14 @@ use std::process::Abort;
 use std::test::Fail;
 use subcommands::End;
 
-// What is changed, the statements that change it, and why the database is refused then: the
-// refusal, its cause, and the name of what differs.
+// The name of a difference, the statements that produce it, and the reason why the database is then
+// refused: the number of the refusal, its cause, and the name of the table, index or view that
+// differs.
 #[derive(Clone, Copy)]
 struct Damage(&'static str, &'static [&'static str], &'static str);
 
-// Other tables.
+// Databases that don't have the tables of any schema version, or whose table `version` doesn't have
+// the right row.
 const NOT_OURS: [Damage; 7] = [
     Damage(
         "a table missing",
@@ -66,7 +68,7 @@ const NOT_OURS: [Damage; 7] = [
     ),
 ];
 
-// Rows that are those of no sound contents.
+// Rows that don't represent sound contents.
 const DAMAGED: [Damage; 18] = [
     Damage(
         "a session's state",
@@ -166,7 +168,8 @@ const DAMAGED: [Damage; 18] = [
     ),
 ];
 
-// A row that has a value that no row of ours has, in each table whose own checks allow that.
+// Rows with a value that no row of a sound database has: one for each table whose checks allow such
+// a value, except `reply`, which `DAMAGED` covers.
 const UNREADABLE: [Damage; 8] = [
     Damage(
         "a lot's first serial below 0",
@@ -210,7 +213,7 @@ const UNREADABLE: [Damage; 8] = [
     ),
 ];
 
-// Two machines that have a card each, and a batch whose only record failed.
+// Two machines with a running session each, and a batch whose only record failed.
 const FURTHER: [Exchange; 7] = [
     accepted!("/c/office/6", lot!("L2", "P1", 2000, 5), made!("lot", "L2")),
     accepted!(
@@ -235,7 +238,7 @@ const FURTHER: [Exchange; 7] = [
     ),
 ];
 
-// A sound database, from a store without facts.
+// Returns a sound database, made with `store`, which has no facts yet.
 fn sound<S: Alter + Drop>(
     rt: &impl Abort,
     alloc: Global,
@@ -247,7 +250,8 @@ fn sound<S: Alter + Drop>(
     Ok(store.close())
 }
 
-// The refusal, its cause, and the name of what differs.
+// Returns the number of the refusal, its cause, and the name of the table, index or view that
+// differs.
 fn text_of(alloc: Global, fault: &FileFault) -> Result<Vec<u8>, AllocError> {
     let (text, name) = match fault {
         FileFault::NotOurs { cause } => (format!(in alloc; "81 {cause}")?, cause.name()),
@@ -262,8 +266,8 @@ fn text_of(alloc: Global, fault: &FileFault) -> Result<Vec<u8>, AllocError> {
     Ok(bytes)
 }
 
-// What the shop's book says of a database, in the same words; nothing where it ends as that of a
-// sound one.
+// Returns the reason why `shopbook` refuses a database or finds it damaged, in the form of
+// `text_of`. The result is empty if `shopbook check` finds no damage.
 fn book_text<S: Alter>(alloc: Global, conn: &mut Connection<S>) -> Result<Vec<u8>, Fail> {
     if !conn.is_autocommit() {
         return Err(Fail::new("a transaction is open"));
@@ -289,8 +293,8 @@ fn book_text<S: Alter>(alloc: Global, conn: &mut Connection<S>) -> Result<Vec<u8
     }
 }
 
-// A database that has this damage is refused, and its rows and its schema stay. The shop's book
-// says the same of it.
+// Checks that a database with this damage is refused, and that its rows and its schema don't
+// change. `shopbook` must report the same cause.
 fn check_refused<S: Alter + Drop>(
     rt: &impl Abort,
     alloc: Global,
@@ -321,7 +325,7 @@ fn check_refused<S: Alter + Drop>(
     }
 }
 
-// Each of these is refused for its cause, and stays as it is.
+// Checks that a sound database with each of these damages is refused.
 fn check_all(rt: &impl Abort, alloc: Global, damages: &[Damage]) -> Result<(), Fail> {
     for damage in damages {
         let conn = sound(rt, alloc, tables(alloc)?)?;

@@ -1,5 +1,5 @@
-//! The two files of a database, in memory: they stop at some call, and are opened again on what
-//! they hold.
+//! The two files of a database in memory. They fail from some call on, and are opened again with
+//! the bytes that are left.
 ghost use Rattle.std.specs.Prelude.{IfOk, IsTrue};
 ghost use Rattle.sqlite_disk.specs.Memory.{memory_is_usable};
 
@@ -8,29 +8,30 @@ use sqlite_disk::{Crash, Disk, Fuse, Memory};
 use std::alloc::Global;
 use std::io;
 
-/// What the log and the database hold.
+/// The bytes of the WAL and of the database file.
 #[derive(Debug, PartialEq, Drop)]
 pub(crate) struct Left {
     log: Vec<u8>,
     db: Vec<u8>,
 }
 
-/// How many calls each file passes on. Each call behind them fails, and changes nothing.
+/// The number of calls that each file performs. Every later call fails and changes nothing.
 #[derive(Clone, Copy)]
 pub(crate) struct Stop {
     pub(crate) log: u64,
     pub(crate) db: u64,
 }
 
-/// Whether files were closed with no call that failed, and what they hold: as they stand, without
-/// what the log had not made durable, and without what both had not.
+/// The result of closing two files: whether no call failed, and their bytes after three crashes:
+/// none of the written bytes are lost; those of the WAL that weren't durable are; those of both
+/// files are.
 #[derive(Drop)]
 pub(crate) struct Ended {
     pub(crate) is_closed: bool,
     pub(crate) lefts: Vec<Left>,
 }
 
-/// Files of nothing.
+/// Returns two empty files.
 pub(crate) fn nothing(alloc: Global) -> Left {
     Left {
         log: Vec::new(alloc),
@@ -38,7 +39,7 @@ pub(crate) fn nothing(alloc: Global) -> Left {
     }
 }
 
-// The log is copied into the database a few times in a run, and the cache has room for all pages.
+// A run has a few checkpoints, and the cache has room for all pages.
 const OPTIONS: Options = Options {
     cache_pages: 64,
     spill_pages: 64,
@@ -46,7 +47,11 @@ const OPTIONS: Options = Options {
     seed: 1,
 };
 
-/// Opens files that hold this. Errors: what is left of them, where they stop.
+/// Opens two files with the bytes of `left`, which fail from `stop` on.
+///
+/// # Errors
+///
+/// Returns the bytes that are left if a call failed.
 pub(crate) fn open(
     alloc: Global,
     left: &Left,
@@ -74,8 +79,8 @@ pub(crate) fn close(alloc: Global, conn: Connection<FileStore<Fuse<Memory>>>) ->
     }
 }
 
-// A file in memory that holds these bytes.
-fn holding(alloc: Global, bytes: &[u8]) -> io::Result<Memory>
+/// Returns a file in memory that holds `bytes`.
+pub(crate) fn holding(alloc: Global, bytes: &[u8]) -> io::Result<Memory>
     ensures { IfOk result (λ memory. IsTrue (memory_is_usable memory)) }
 {
     let mut memory = Memory::new(alloc);

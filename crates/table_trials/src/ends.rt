@@ -1,5 +1,4 @@
-//! How each end of the program is seen from outside: by its status, and its words on standard
-//! error.
+//! Tests of the exit status and the words on standard error for each end of a run.
 use crate::exchanges::at_last;
 use batch_import::{Kind, RowFault};
 use job_facts::Refusal;
@@ -8,7 +7,7 @@ use std::process::Abort;
 use std::test::Fail;
 use subcommands::{End, Exit, exit_of};
 
-// The words as they are displayed.
+// Returns the words as they are displayed.
 fn shown(alloc: Global, exit: &Exit) -> Result<String, AllocError> {
     match exit.words {
         Some(words) => format!(in alloc; "{words}"),
@@ -16,7 +15,8 @@ fn shown(alloc: Global, exit: &Exit) -> Result<String, AllocError> {
     }
 }
 
-/// An end has this status, and these words or none.
+/// Checks that `end` has the exit status `status` and the words `words`, or no words if `words` is
+/// empty.
 pub(crate) fn check_exit(
     rt: &impl Abort,
     alloc: Global,
@@ -32,7 +32,7 @@ pub(crate) fn check_exit(
     Ok(())
 }
 
-// Every end but those of a batch's faults.
+// All ends except the faults of a batch file.
 static ENDS: [(End, u8, &str); 21] = [
     (End::Done, 0, ""),
     (End::Helped, 0, ""),
@@ -69,7 +69,7 @@ fn each_end_has_its_status_and_its_words(rt: HostRuntime) -> Result<(), Fail> {
     Ok(())
 }
 
-// Faults of a batch with their numbers, and the rows that they are printed with.
+// The faults of a batch file, each with its number and a row.
 static FAULTS: [(Kind, u8, u32); 14] = [
     (Kind::MarksDiffer, 21, 2),
     (Kind::IdentifierTwice, 22, 3),

@@ -1,4 +1,5 @@
-//! Requests to a store, and its replies. What is refused memory comes again.
+//! Helpers of tests: requests to a store, and its replies. They repeat calls that run out of
+//! memory.
 ghost use Rattle.std.specs.Prelude.{IfOk};
 ghost use Rattle.job_facts.specs.Requests.{IsArrival};
 ghost use Rattle.http_requests.specs.Asks.{IsInRange};
@@ -13,7 +14,7 @@ use std::process::Abort;
 use std::test::Fail;
 use worked_files::{JSON, post, reply_bytes};
 
-/// The target of a message and its body, and the status and the body of its reply.
+/// The path and the body of a request, and the status and the body of its reply.
 #[derive(Clone, Copy)]
 pub(crate) struct Exchange(
     pub(crate) &'static str,
@@ -23,20 +24,20 @@ pub(crate) struct Exchange(
 );
 
 impl Exchange {
-    /// The message's bytes.
+    /// Returns the bytes of the HTTP message with the request.
     pub(crate) fn message(&self, alloc: Global) -> Result<Vec<u8>, AllocError> {
         let Exchange(target, body, ..) = *self;
         post(alloc, target, body.as_bytes())
     }
 
-    /// The reply's bytes.
+    /// Returns the bytes of the HTTP response with the reply.
     pub(crate) fn reply(&self, alloc: Global) -> Result<Vec<u8>, AllocError> {
         let Exchange(_, _, status, body) = *self;
         reply_bytes(alloc, status, JSON, None, body.as_bytes())
     }
 }
 
-/// What a call answers, at once or when it comes again.
+/// Evaluates a call, and again if it fails. Returns the last result.
 macro_rules! at_last {
     ($call:expr) => {
         match $call {
@@ -48,7 +49,7 @@ macro_rules! at_last {
 
 pub(crate) use at_last;
 
-// What these bytes ask.
+// Parses the request in `bytes`, which are read in pieces of at most 512 bytes.
 fn asked(alloc: Global, bytes: &[u8]) -> Result<Asked, AskFault>
     ensures { IfOk result IsInRange }
 {
@@ -60,7 +61,7 @@ fn asked(alloc: Global, bytes: &[u8]) -> Result<Asked, AskFault>
     }
 }
 
-/// The arrival that an exchange's message is.
+/// Parses the request of `exchange` and returns it as an arrival.
 pub(crate) fn arrival(alloc: Global, exchange: &Exchange) -> Result<Arrival, Fail>
     ensures { IfOk result IsArrival }
 {
@@ -71,7 +72,7 @@ pub(crate) fn arrival(alloc: Global, exchange: &Exchange) -> Result<Arrival, Fai
     }
 }
 
-/// The reply to an arrival.
+/// Handles `arrival` with `store`, and returns the reply.
 pub(crate) fn reply_to<S: JobStore>(
     alloc: Global,
     store: &mut S,
@@ -83,7 +84,7 @@ pub(crate) fn reply_to<S: JobStore>(
     handle(alloc, store, client, arrival.number, ask, &arrival.request)
 }
 
-/// The reply has the status and the body of the exchange.
+/// Checks that `kept` has the status and the body of the reply of `exchange`.
 pub(crate) fn check_reply(rt: &impl Abort, exchange: &Exchange, kept: &Kept) {
     let Exchange(target, asked, status, body) = *exchange;
     assert_eq!(rt; kept.status, status, "{target} {asked}");

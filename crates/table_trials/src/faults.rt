@@ -1,8 +1,9 @@
-//! Stories over a device that fails, is full or lies: each fault in each step of a run, and then
-//! the repeat of all.
+//! Tests of stories over a device that fails, is full or loses data without an error. Each fault
+//! strikes in each step of a run, and then all lines are repeated.
 //!
-//! A run is a list of lines, each a client's message and its reply: the set-up, a release of its
-//! numbers, a late repeat of one of these, a story, and the accounts.
+//! A run is a list of lines, each with the message of a client and the response to it: the set-up,
+//! a release of its request numbers, a late repeat of one of its requests, a story, and the
+//! accounts.
 use crate::exchanges::at_last;
 use crate::stories::{CLOSING, LATE, MADE_AGAIN, RELEASE, SET_UP, Story, WITHDRAWAL};
 use faulty_store::{Device, Fault, FaultyStore, Plan};
@@ -13,11 +14,11 @@ use std::process::Abort;
 use std::test::Fail;
 use worked_files::{JSON, get, reply_bytes};
 
-// The reply where the store failed, or memory was refused.
+// The response if the store or an allocation fails.
 const UNAVAILABLE: &[u8] =
     b"HTTP/1.1 503 Service Unavailable\r\nContent-Type: application/json\r\nContent-Length: 32\r\nConnection: close\r\n\r\n{\"code\":503,\"refused\":\"storage\"}";
 
-// Stories, and the accounts of batch B1 and of the blanks of P1 at their ends.
+// The stories, each with the accounts of batch B1 and of the blanks of P1 at its end.
 static STORIES: [(&Story, [&str; 2]); 3] = [
     (
         &MADE_AGAIN,
@@ -42,20 +43,20 @@ static STORIES: [(&Story, [&str; 2]); 3] = [
     ),
 ];
 
-// The targets of the accounts.
+// The paths of the accounts.
 const ACCOUNTS: [&str; 2] = ["/batch/B1", "/blanks/P1"];
 
-// More steps than a run takes.
+// A number of steps that no run reaches.
 const MANY_TURNS: u64 = 1000;
 
-// A connection's message, and its reply.
+// The message of a connection, and the response to it.
 #[derive(Drop)]
 struct Line {
     message: Vec<u8>,
     reply: Vec<u8>,
 }
 
-// A run, line by line, and the reply to a number of its set-up that was released.
+// The lines of a run, and the response to a request of the set-up whose number is released.
 #[derive(Drop)]
 struct Run {
     lines: Vec<Line>,
@@ -84,8 +85,8 @@ fn run_of(alloc: Global, story: &Story, accounts: &[&str; 2]) -> Result<Run, All
     })
 }
 
-// The reply to the line at this place, where so many lines had reached the device before it was
-// sent.
+// Returns the response to line `place` if the first `reached` lines had reached the device before
+// the line was sent.
 fn wanted(run: &Run, place: usize, reached: usize) -> &[u8] {
     if place < SET_UP.len() && reached > SET_UP.len() {
         return run.released.as_slice();
@@ -95,7 +96,6 @@ fn wanted(run: &Run, place: usize, reached: usize) -> &[u8] {
         .map_or(b"", |line| line.reply.as_slice())
 }
 
-// The messages of these lines.
 fn messages(alloc: Global, lines: &[Line]) -> Result<Vec<Vec<u8>>, AllocError> {
     let mut messages = Vec::new(alloc);
     for line in lines {
@@ -104,13 +104,13 @@ fn messages(alloc: Global, lines: &[Line]) -> Result<Vec<Vec<u8>>, AllocError> {
     Ok(messages)
 }
 
-// How often a device was said to have failed, or to be full.
+// Returns how often the device reported that it failed or was full.
 fn faults(device: Device) -> u64 {
     device.failed.saturating_add(device.full)
 }
 
-// Sends these lines, one connection for each. There are as many replies 503 as the device counts
-// faults, or else memory was refused.
+// Sends `lines`, each over its own connection. The number of responses with 503 must be the number
+// of faults that the device counted. Otherwise an allocation failed, and the result is `Memory`.
 fn sent(
     alloc: Global,
     store: &mut FaultyStore,
@@ -136,8 +136,8 @@ fn is_unavailable(replied: &Replied) -> bool {
     replied.written.as_slice() == UNAVAILABLE
 }
 
-// Sends the line at this place for the first time. Answers whether its reply is 503; else it is
-// the reply that the run has.
+// Sends line `place` for the first time. Returns `true` if the response is 503. Any other response
+// must be the one of the run, unless the device has lost data.
 fn is_refused(
     rt: &impl Abort,
     alloc: Global,
@@ -160,7 +160,7 @@ fn is_refused(
     Ok(false)
 }
 
-// Sends so many lines again. Each gets the reply that the run has.
+// Sends the first `count` lines again, and checks that each gets the response of the run.
 fn check_repeat(
     rt: &impl Abort,
     alloc: Global,
@@ -178,8 +178,8 @@ fn check_repeat(
     Ok(())
 }
 
-// The product, the lot and the batch of the set-up are there exactly where their lines have reached
-// the device.
+// Checks that the product, the lot and the batch of the set-up exist if and only if their lines
+// reached the device.
 fn check_set_up(rt: &impl Abort, store: &mut FaultyStore, reached: usize) {
     let counts = [
         store.product_count(),
@@ -194,12 +194,17 @@ fn check_set_up(rt: &impl Abort, store: &mut FaultyStore, reached: usize) {
     assert_eq!(rt; counts, wanted);
 }
 
-// Sends a run, each line of which meets this fault. A line that does gets 503. A device that failed
-// has shut the store, which then answers 503 even to what is kept, until it is opened again; one
-// that is full leaves it open. Then all lines so far are sent again: each that had its reply gets
-// the same bytes, but for released numbers, and that one is decided, or gets the reply that was
-// kept where its write had reached the device. At the end the whole run gets its replies again, so
-// nothing counts twice in its accounts. Answers whether a line met the fault.
+// Sends a run in which `plan` is planned again for each line. Returns `true` if the fault struck in
+// a line.
+//
+// A line in which the fault strikes gets 503. If the device failed, the store is shut and responds
+// with 503 even to requests that have kept replies, until it is opened again. If the device is
+// full, the store stays open. Then all lines so far are repeated. Lines that had a response get the
+// same bytes, unless their request numbers are released. The line with the fault is decided, or
+// gets its kept reply if its write had reached the device.
+//
+// At the end the whole run is repeated and gets the same responses. The accounts are among them, so
+// no request takes effect twice.
 fn check_run(rt: &impl Abort, alloc: Global, run: &Run, plan: Plan) -> Result<bool, NextFault> {
     let is_full = matches!(plan.fault, Fault::Full);
     let is_written = matches!(plan.fault, Fault::FailedAfterWrite);
@@ -231,9 +236,10 @@ fn check_run(rt: &impl Abort, alloc: Global, run: &Run, plan: Plan) -> Result<bo
     Ok(strikes)
 }
 
-// Sends a run in which the device loses all. The lines before get the replies that the run has, and
-// no line gets 503: the count of lies alone shows that the product, which was created, is gone.
-// Answers whether the device has lied.
+// Sends a run in which the device loses all data without an error. The lines before the loss get
+// the responses of the run, and no line gets 503. Only the counter `lies` shows the loss: the
+// product no longer exists, unless the loss was before it was created. Returns `true` if data was
+// lost.
 fn check_lying(rt: &impl Abort, alloc: Global, run: &Run, plan: Plan) -> Result<bool, NextFault> {
     let mut store = FaultyStore::new(alloc, Some(plan));
     let mut honest = 0;
@@ -265,7 +271,7 @@ fn check_fault(rt: &impl Abort, alloc: Global, run: &Run, plan: Plan) -> Result<
     }
 }
 
-// A fault in each step of each story's run, until it strikes no more.
+// Sends the run of each story with a fault in each step, until the fault no longer strikes.
 fn check_turns(rt: &impl Abort, alloc: Global, fault: Fault) -> Result<(), Fail> {
     for (story, accounts) in &STORIES {
         let run = at_last!(run_of(alloc, story, accounts))?;
@@ -282,27 +288,27 @@ fn check_turns(rt: &impl Abort, alloc: Global, fault: Fault) -> Result<(), Fail>
     Ok(())
 }
 
-// Whatever step it fails in, what was acknowledged gets its reply again, and the accounts are the
-// story's.
+// If the device fails in any step, requests that had replies get the same replies when they are
+// repeated, and the accounts are the ones of the story.
 #[test]
 fn a_device_that_fails_loses_nothing(rt: HostRuntime) -> Result<(), Fail> {
     check_turns(&rt, rt.alloc(), Fault::Failed)
 }
 
-// The write of a line that got 503 is there after all: the line's repeat gets its reply,
-// and makes no second change.
+// The line gets 503, but its write had reached the device. Its repeat gets the kept reply and
+// changes nothing.
 #[test]
 fn a_write_that_reached_a_failed_device_counts_once(rt: HostRuntime) -> Result<(), Fail> {
     check_turns(&rt, rt.alloc(), Fault::FailedAfterWrite)
 }
 
-// The store stays open, and the line's repeat is decided.
+// The store stays open, and the repeat of the line is decided.
 #[test]
 fn a_full_device_refuses_one_line(rt: HostRuntime) -> Result<(), Fail> {
     check_turns(&rt, rt.alloc(), Fault::Full)
 }
 
-// No reply speaks of it.
+// No response shows the loss of data.
 #[test]
 fn a_lie_shows_in_its_count_alone(rt: HostRuntime) -> Result<(), Fail> {
     check_turns(&rt, rt.alloc(), Fault::Lies)

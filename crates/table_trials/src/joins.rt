@@ -1,4 +1,5 @@
-//! What joins the program's words to its streams, its file and its event lines.
+//! Tests of the functions that connect the arguments of `persod` with its streams, its database
+//! file and its event lines.
 use crate::ends::check_exit;
 use crate::exchanges::at_last;
 use arguments::{WordsFault, read_words};
@@ -17,7 +18,8 @@ use subcommands::{
     End, end_of_close, end_of_words, explain, level_by, note_refusal, note_unstarted, wanted_of,
 };
 
-// What words that give no subcommand print into two pages, and how much of each is used.
+// Returns the end of a run whose arguments give no subcommand, and the number of bytes written to
+// `output` and to `errors`.
 fn explained(
     alloc: Global,
     words: &[&str],
@@ -44,8 +46,8 @@ const VERSION: &[u8] = b"persod 1.0.0\n";
 const WRONG: &[u8] =
     b"error: invalid value '15' for '--max <N>': 15 is not in 16..=255\n\nFor more information, try '--help'.\n";
 
-/// Words that give no subcommand, how many bytes each stream takes, and what comes of them: the
-/// bytes on each stream, the status, and the words on standard error.
+/// Arguments that give no subcommand, the number of bytes that each stream accepts, and the
+/// expected result: the bytes on each stream, the exit status, and the words on standard error.
 struct Unread {
     words: &'static [&'static str],
     rooms: (usize, usize),
@@ -119,7 +121,7 @@ fn help_goes_to_the_output_and_a_usage_fault_to_the_errors(rt: HostRuntime) -> R
     Ok(())
 }
 
-// Which file these words take, if they name a subcommand.
+// Returns the databases that the subcommand in `words` may open.
 fn wanted(alloc: Global, words: &[&str]) -> Result<Wanted, WordsFault> {
     Ok(wanted_of(&read_words(alloc, words)?))
 }
@@ -140,6 +142,10 @@ fn only_a_server_makes_a_file(rt: HostRuntime) -> Result<(), Fail> {
 fn the_variable_says_which_event_lines_are_written(rt: HostRuntime) -> Result<(), Fail> {
     for (value, level) in [
         ("", Level::Off),
+        ("0", Level::Off),
+        ("off", Level::Off),
+        ("00", Level::Usual),
+        ("OFF", Level::Usual),
         ("1", Level::Usual),
         ("all", Level::All),
         ("ALL", Level::Usual),
@@ -172,7 +178,7 @@ fn a_store_that_cannot_be_closed_is_the_end(rt: HostRuntime) -> Result<(), Fail>
     Ok(())
 }
 
-// A file whose table `mark` is missing.
+// Returns the refusal of a database without the table `mark`.
 fn without_marks(alloc: Global) -> Result<FileFault, AllocError> {
     let table = Vec::from_slice(alloc, b"mark")?;
     let difference = Difference::Missing { table };
@@ -180,7 +186,8 @@ fn without_marks(alloc: Global) -> Result<FileFault, AllocError> {
     Ok(FileFault::NotOurs { cause })
 }
 
-// The event line of a fault is this, at once or when it comes again.
+// Checks that the event line of `fault` is `text`, or that no line is written if `text` is empty.
+// If an allocation fails, the line isn't written, and the call is repeated.
 fn check_noted(rt: &impl Abort, alloc: Global, level: Level, fault: &FileFault, text: &str) {
     let mut page = [0; 128];
     for _ in 0..2 {
@@ -221,8 +228,8 @@ fn a_refused_file_has_its_event_line(rt: HostRuntime) -> Result<(), Fail> {
     Ok(())
 }
 
-// A server that isn't given its port writes this event line and ends with this word, at once or
-// when it comes again.
+// Checks the event line and the end of a server that can't listen on `port` because of `error`. If
+// an allocation fails, the line isn't written, and the call is repeated.
 fn check_unstarted(
     rt: &impl Abort,
     alloc: Global,

@@ -1,9 +1,9 @@
-//! Tests of stores: devices that fail, are full or lie; refused memory, over lists and over tables;
-//! files that stop at each of their calls, damage, tables of earlier versions, and a file behind a
-//! socket; and why one is not taken. And runs of the program, and each of its ends.
+//! Tests of stores and of `persod` that no example file can express: devices that fail, are full or
+//! lose data without an error, failed allocations, crashes, damaged files, earlier schema versions,
+//! and sockets.
 #![tactic(auto)]
 
-// What the tests share.
+// Helpers of the tests.
 #[cfg(test)]
 mod bodies;
 #[cfg(test)]
@@ -13,13 +13,14 @@ mod exchanges;
 #[cfg(test)]
 mod stories;
 
-// A store over lists or tables whose device or memory fails.
+// Stores over lists or tables whose device or allocations fail.
 #[cfg(test)]
 mod faults;
 #[cfg(test)]
 mod refused;
 
-// A store over files: stops, earlier versions, and files that are refused; and their book.
+// Stores over files, and the rows that `shopbook` reads from them: crashes, earlier schema
+// versions, and refused files.
 #[cfg(test)]
 mod books;
 #[cfg(test)]
@@ -37,7 +38,7 @@ mod versions;
 #[cfg(test)]
 mod wals;
 
-// The program, and the server behind a socket.
+// `persod`, and its server over a socket.
 #[cfg(test)]
 mod ends;
 #[cfg(test)]

@@ -1,4 +1,5 @@
-//! What the file system says of a path: nothing else than that where memory is refused.
+//! Tests that a failed allocation in the file system is reported as such, and never as a property
+//! of the path, and that a database file is created only if nothing has its path.
 use crate::causes::{folder_of, mode_of, set_mode, within, write};
 use over_tables::Wanted;
 use std::alloc::{Alloc, AllocError, AllocGlobal, Allocator, Global};
@@ -11,7 +12,7 @@ use std::process::Abort;
 use std::test::Fail;
 use store_files::{Place, create_private, has_log, place_of};
 
-// A file system that once says that memory was refused, behind so many answers.
+// A file system in which one call runs out of memory. `answers` is the number of calls before it.
 #[derive(Drop)]
 struct OutOfMemory<'a, R> {
     rt: &'a R,
@@ -28,7 +29,7 @@ impl<'a, R> OutOfMemory<'a, R> {
         }
     }
 
-    // Counts what is asked.
+    // Counts a call, and fails if it is the one that runs out of memory.
     fn take(&self) -> io::Result<()> {
         let asked = self.asked.get();
         self.asked.set(asked.saturating_add(1));
@@ -101,7 +102,8 @@ impl<R: Files> Files for OutOfMemory<'_, R> {
     }
 }
 
-// Each answer that is asked for may be the one that memory is refused for.
+// Checks the result of `place_of` for a failed allocation in each of its calls of the file system,
+// and for none. `answers` is the number of these calls.
 fn check_place<R: Files + AllocGlobal + Abort>(rt: &R, path: &str, answers: u32, place: Place) {
     for answers in 0..answers {
         let refusing = OutOfMemory::after(rt, answers);
@@ -114,7 +116,7 @@ fn check_place<R: Files + AllocGlobal + Abort>(rt: &R, path: &str, answers: u32,
     assert_eq!(rt; place_of(&OutOfMemory::after(rt, answers), path), Ok(place));
 }
 
-// So it is with the log that stands beside the path.
+// Checks `has_log` in the same way, for a path with a WAL.
 fn check_log<R: Files + AllocGlobal + Abort>(rt: &R, path: &str) {
     for answers in 0..2 {
         let refusing = OutOfMemory::after(rt, answers);
@@ -147,8 +149,9 @@ fn refused_memory_is_no_answer(rt: HostRuntime) -> Result<(), Fail> {
     Ok(())
 }
 
-// A file is made only if a new store may begin and nothing has the path, be it a link that leads
-// nowhere. What hinders that is left to the open to find.
+// `create_private` creates a file only if `wanted` allows a new store and nothing has the path, not
+// even a broken link. It also returns `Ok` if the file can't be created: the open that follows
+// finds the cause.
 #[test]
 fn a_file_is_made_where_nothing_is(rt: HostRuntime) -> Result<(), Fail> {
     let folder = folder_of(&rt, "made")?;

@@ -1,4 +1,4 @@
-//! Runs of the program, from its words to its exit.
+//! Tests of runs of `persod`, from the arguments to the exit status.
 use crate::ends::check_exit;
 use crate::exchanges::at_last;
 use arguments::{Words, WordsFault, read_words};
@@ -11,7 +11,7 @@ use std::test::Fail;
 use subcommands::{End, end_of_words, run, run_feed};
 use worked_files::{JSON, reply_bytes};
 
-/// Takes all, and fails to flush.
+/// A writer that accepts all bytes and can't be flushed.
 #[derive(Drop)]
 struct Unflushed;
 
@@ -25,7 +25,8 @@ impl Write for Unflushed {
     }
 }
 
-// How a run with these words ends, from this input to the writer behind this buffer.
+// Runs `persod` with the arguments `words` and the input `raw`, and returns the end of the run. The
+// result is `Usage` for a subcommand that needs a database file or a socket.
 fn end_of<W: Write + Drop>(
     alloc: Global,
     words: &[&str],
@@ -44,8 +45,9 @@ fn end_of<W: Write + Drop>(
     }
 }
 
-// How a run with these words ends that prints to a page, and how much it printed. Refused memory is
-// a fault, so that the run comes again, also where the first reply of a drill shows it.
+// Runs `persod` with the arguments `words` and the input `raw`. Returns the end of the run and the
+// number of bytes written to `page`. If an allocation fails, even if only the first reply of a
+// drill shows it, the result is `Memory`, so that the caller repeats the run.
 fn printed(
     alloc: Global,
     words: &[&str],
@@ -66,7 +68,7 @@ fn printed(
     Ok((end, room.saturating_sub(left)))
 }
 
-// How a plan ends whose writer fails to flush.
+// Returns the end of a plan whose writer can't be flushed.
 fn end_unflushed(alloc: Global) -> Result<End, WordsFault> {
     let Ok(mut writer) = BufWriter::new(alloc, Unflushed) else {
         return Err(WordsFault::Memory);
@@ -77,14 +79,14 @@ fn end_unflushed(alloc: Global) -> Result<End, WordsFault> {
     }
 }
 
-// A coding of 19 bytes.
+// A batch file whose only grouping has an encoding of 19 bytes.
 const LONG: &[u8] =
     b"record,aid,rank,enc,tol,dgi\nR1,F00000000101,1,0,0,80001000112233445566778899AABBCCDDEEFF\n";
 
-// A plain grouping of a file's record that holds none.
+// A batch file with a plain grouping 0101 that doesn't contain an EMV record.
 const UNCHECKED: &[u8] = b"record,aid,rank,enc,tol,dgi\nR1,F00000000101,1,0,0,0101021122\n";
 
-/// The words of a run, its input, what it prints on standard output, its status, and its words on
+/// The arguments of a run, its input, its standard output, its exit status, and its words on
 /// standard error.
 struct Run(
     &'static [&'static str],
@@ -128,7 +130,7 @@ static RUNS: [Run; 7] = [
     ),
 ];
 
-// A run prints this, and has this exit.
+// Checks the standard output and the exit of a run.
 fn check_run(rt: &impl Abort, alloc: Global, run: &Run) -> Result<(), Fail> {
     let Run(words, raw, text, status, exit_words) = run;
     let mut page = [0; 512];
@@ -146,7 +148,7 @@ fn words_and_input_decide_what_is_printed_and_the_exit(rt: HostRuntime) -> Resul
     Ok(())
 }
 
-// A batch whose one grouping has 4,092 bytes of data.
+// Returns a batch file whose only grouping has 4,092 bytes of data.
 fn large_grouping(alloc: Global) -> Result<Vec<u8>, AllocError> {
     let mut raw = Vec::from_slice(
         alloc,
@@ -170,7 +172,7 @@ fn a_plan_of_too_many_commands_is_refused(rt: HostRuntime) -> Result<(), Fail> {
     Ok(())
 }
 
-// The one page takes five bytes; the other writer takes all.
+// The first writer accepts five bytes. The second one accepts all bytes but can't be flushed.
 #[test]
 fn a_failed_flush_is_a_failed_write(rt: HostRuntime) -> Result<(), Fail> {
     let alloc = rt.alloc();
@@ -183,11 +185,11 @@ fn a_failed_flush_is_a_failed_write(rt: HostRuntime) -> Result<(), Fail> {
     Ok(())
 }
 
-/// A request's target and body, and the status and the body of its reply.
+/// The path and the body of a request, and the status and the body of its reply.
 #[derive(Clone, Copy)]
 struct Step(&'static str, &'static str, u16, &'static str);
 
-/// A server that answers these requests, in order, and no other.
+/// A server that expects these requests in order, and responds only to them.
 #[derive(Drop)]
 struct Server {
     alloc: Global,
@@ -214,7 +216,7 @@ impl Exchange for Server {
     }
 }
 
-// The words of a feed.
+// The arguments of a feed.
 const FEED: [&str; 10] = [
     "persod",
     "feed",
@@ -228,7 +230,7 @@ const FEED: [&str; 10] = [
     "B1",
 ];
 
-// The requests of its machine for one card of two commands, and their replies.
+// The requests of the machine for one card of two commands, and their replies.
 static CARD: [Step; 5] = [
     Step(
         "/c/m1/10000001",
@@ -262,7 +264,7 @@ static CARD: [Step; 5] = [
     ),
 ];
 
-// The first request, where a later boot has released its number.
+// The first request, if a later boot has released its request number.
 static LATE: [Step; 1] = [Step(
     "/c/m1/10000001",
     "{\"do\":\"release\",\"upto\":10000000}",
@@ -270,7 +272,8 @@ static LATE: [Step; 1] = [Step(
     "{\"code\":73,\"mark\":20000000,\"refused\":\"number-released\"}",
 )];
 
-// How a feed with those words ends, by its cards and its server, and how much of a page it prints.
+// Runs a feed with the arguments `FEED`, the input `cards` and a server that expects `steps`.
+// Returns the end of the run and the number of bytes written to `page`.
 fn fed(
     alloc: Global,
     cards: &[u8],

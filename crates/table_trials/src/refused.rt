@@ -1,6 +1,6 @@
-//! Stories over lists, and over tables in memory. Each test is right with ample memory, and says
-//! the same whichever one allocation is refused: a call reports that it is out of memory, leaves
-//! all as it was, and answers right when it comes again.
+//! Tests of stories over lists and over tables in memory. Each test succeeds without a failed
+//! allocation and if any single allocation fails: the call then reports that it is out of memory,
+//! changes nothing, and returns the right result when it is repeated.
 ghost use Rattle.job_facts.specs.Requests.{IsArrival};
 
 use crate::exchanges::{Exchange, arrival, at_last, check_reply, reply_to};
@@ -17,7 +17,7 @@ use std::process::Abort;
 use std::test::Fail;
 use store_data::Name;
 
-// How batch B1 stands, in records, waiting, running, failed, withdrawn, good, sessions and
+// Returns the account of batch B1: records, waiting, running, failed, withdrawn, good, sessions and
 // spoiled.
 fn batch_of<S: JobStore>(store: &mut S) -> Result<[u64; 8], Fail> {
     let batch = Name::new(b"B1").ok_or("no name")?;
@@ -34,14 +34,16 @@ fn batch_of<S: JobStore>(store: &mut S) -> Result<[u64; 8], Fail> {
     ])
 }
 
-// How the blanks of product P1 stand, in lots, total, good, running, spoiled and discarded.
+// Returns the account of the blanks of product P1: lots, total, good, running, spoiled and
+// discarded.
 fn blanks_of<S: JobStore>(store: &mut S) -> Result<[u64; 6], Fail> {
     let product = Name::new(b"P1").ok_or("no name")?;
     let t = at_last!(store.blank_totals(&product))?;
     Ok([t.lots, t.total, t.good, t.running, t.spoiled, t.discarded])
 }
 
-// How many products, lots, batches, sessions and replies under the number of an arrival there are.
+// Returns the numbers of products, lots, batches and sessions, and of kept replies under the client
+// and request number of `arrival`.
 fn counts_of<S: JobStore>(store: &mut S, arrival: &Arrival) -> Result<[u64; 5], StoreFault> {
     let kept = store.kept(&arrival.client, arrival.number)?;
     Ok([
@@ -53,8 +55,8 @@ fn counts_of<S: JobStore>(store: &mut S, arrival: &Arrival) -> Result<[u64; 5], 
     ])
 }
 
-// The reply to an arrival. Where memory was refused, nothing has changed, and the arrival gets its
-// reply when it comes again.
+// Returns the reply to `arrival`. If an allocation fails, nothing changes, and the arrival gets its
+// reply when it is repeated.
 fn reply_at_last<S: JobStore>(
     rt: &impl Abort,
     alloc: Global,
@@ -77,7 +79,7 @@ fn reply_at_last<S: JobStore>(
     }
 }
 
-// Each exchange gets its reply at last, and again when it comes again, which changes nothing.
+// Sends each exchange twice. Both times it gets its reply, and the second time nothing changes.
 fn send_all<S: JobStore>(
     rt: &impl Abort,
     alloc: Global,
@@ -94,7 +96,8 @@ fn send_all<S: JobStore>(
     Ok(())
 }
 
-// A story is sent to a store without facts, and B1 and the blanks of P1 stand then as it says.
+// Sends a story to a store without facts, and checks the accounts of B1 and of the blanks of P1 at
+// its end.
 fn check_over<S: JobStore>(
     rt: &impl Abort,
     alloc: Global,
@@ -108,7 +111,7 @@ fn check_over<S: JobStore>(
     Ok(())
 }
 
-// A store over tables in memory, without facts.
+// Returns a store without facts over tables in memory.
 pub(crate) fn tables(alloc: Global) -> Result<SqlStore<MemStore>, Fail> {
     let conn = at_last!(Connection::open_in_memory(alloc))?;
     match SqlStore::create(alloc, conn) {

@@ -1,4 +1,5 @@
-//! The store in a file, behind a socket that one thread serves and asks.
+//! Tests of a server over a database file and a socket. The same thread serves the connections and
+//! sends the requests.
 use crate::bodies::refused;
 use crate::exchanges::Exchange;
 use crate::stories::{CLOSING, SET_UP};
@@ -20,18 +21,18 @@ use std::{env, fs};
 use store_data::Name;
 use store_files::{Found, StoreTask, with_store};
 
-// The first message, a product, byte for byte.
+// The first message, a request for a product, byte for byte.
 const PRODUCT: &[u8] =
     b"POST /c/office/1 HTTP/1.1\r\nHost: localhost\r\nContent-Length: 63\r\n\r\n{\"do\":\"product\",\"product\":\"P1\",\"max\":255,\"low\":0,\"check\":false}";
 
-// Its reply.
+// The response to `PRODUCT`.
 const CREATED: &[u8] =
     b"HTTP/1.1 200 OK\r\nContent-Type: application/json\r\nContent-Length: 35\r\nConnection: close\r\n\r\n{\"product\":\"P1\",\"result\":\"created\"}";
 
-// Another request under the product's number.
+// A different request under the request number of `PRODUCT`.
 const REUSED: Exchange = refused!("/c/office/1", r#"{"do":"reset"}"#, 72, "number-reused");
 
-// The batch's report at the end.
+// The report of the batch after all exchanges.
 const REPORT: &str = "batch B1
 product P1
 state closed
@@ -46,7 +47,8 @@ sessions           1
 spoiled            1
 ";
 
-// A batch whose only card is spoiled, and which is closed; and a number that is used again.
+// Returns exchanges in which the only card of a batch is spoiled and the batch is closed. The last
+// exchange reuses a request number.
 fn exchanges(alloc: Global) -> Result<Vec<Exchange>, AllocError> {
     let mut all = Vec::new(alloc);
     for exchanges in [SET_UP.as_slice(), CLOSING.exchanges, &[REUSED]] {
@@ -55,14 +57,14 @@ fn exchanges(alloc: Global) -> Result<Vec<Exchange>, AllocError> {
     Ok(all)
 }
 
-// A peer that has written its whole message.
+// Connects to the server and writes the whole message.
 fn peer(rt: &HostRuntime, place: SocketAddr, exchange: &Exchange) -> io::Result<TcpStream> {
     let mut peer = TcpStream::connect(rt, place)?;
     peer.write_all(exchange.message(rt.alloc())?.as_slice())?;
     Ok(peer)
 }
 
-// Peers that have written all messages, in turn.
+// Opens one connection for each exchange, in order, and writes their messages.
 fn peers(rt: &HostRuntime, place: SocketAddr) -> io::Result<Vec<TcpStream>> {
     let mut peers = Vec::new(rt.alloc());
     for exchange in exchanges(rt.alloc())?.as_slice() {
@@ -71,7 +73,7 @@ fn peers(rt: &HostRuntime, place: SocketAddr) -> io::Result<Vec<TcpStream>> {
     Ok(peers)
 }
 
-// What comes back to each of these.
+// Reads the response of each connection.
 fn read_all(rt: &HostRuntime, peers: Vec<TcpStream>) -> io::Result<Vec<String>> {
     let mut replies = Vec::new(rt.alloc());
     for peer in peers {
@@ -80,7 +82,7 @@ fn read_all(rt: &HostRuntime, peers: Vec<TcpStream>) -> io::Result<Vec<String>> 
     Ok(replies)
 }
 
-// Serves each message at a free port, one at a time, and keeps what comes back.
+// Serves each message on a free port, one connection at a time, and returns the responses.
 #[derive(Drop)]
 struct Asked<'a> {
     rt: &'a HostRuntime,
@@ -116,7 +118,8 @@ impl StoreTask for Asked<'_> {
     }
 }
 
-// Keeps lines, and copies a file when the last of a server comes.
+// A writer that keeps its bytes, and copies the file at `path` when the server writes its last
+// line.
 #[derive(Drop)]
 struct CopyingAtLast<'a> {
     rt: &'a HostRuntime,
@@ -139,7 +142,7 @@ impl Write for CopyingAtLast<'_> {
     }
 }
 
-// What a server wrote, to its peers and to people.
+// The result of a server, with the responses, the lines on standard output and the event lines.
 #[derive(Drop)]
 struct Ran {
     outcome: Result<(), ServeStop>,
@@ -149,7 +152,8 @@ struct Ran {
     events: Vec<u8>,
 }
 
-// Serves all messages, whose peers have written them, and copies the file when `served` comes.
+// Opens a connection for each message, serves them all, and copies the database file when the
+// server writes `served`.
 #[derive(Drop)]
 struct Run<'a> {
     rt: &'a HostRuntime,
@@ -205,7 +209,7 @@ impl StoreTask for Run<'_> {
     }
 }
 
-// Reports a batch.
+// Makes the report of a batch.
 #[derive(Drop)]
 struct Reported<'a> {
     rt: &'a HostRuntime,
@@ -234,23 +238,24 @@ impl StoreTask for Reported<'_> {
     }
 }
 
-// The report of batch B1 from a file.
+// Returns the report of batch B1 from the database file at `path`.
 fn report_of(rt: &HostRuntime, path: &str) -> Result<Result<Vec<u8>, AccountFault>, FileFault> {
     let batch = Name::new(b"B1").ok_or(FileFault::Memory)?;
     with_store(rt, path, Unknown, Wanted::Ours, Reported { rt, batch })
 }
 
-// What a file's server replies to the messages.
+// Returns the responses of a server on the database file at `path`.
 fn replies_of(rt: &HostRuntime, path: &str) -> Result<io::Result<Vec<String>>, FileFault> {
     with_store(rt, path, Unknown, Wanted::Any, Asked { rt })
 }
 
-// What a file's server writes to the messages, and a copy of the file when its last line comes.
+// Runs a server on the database file at `path`, and copies this file when the server writes its
+// last line.
 fn run_of(rt: &HostRuntime, path: &str, copy: &str) -> Result<io::Result<Ran>, FileFault> {
     with_store(rt, path, Unknown, Wanted::Any, Run { rt, path, copy })
 }
 
-// Each reply is the one to its message.
+// Checks that every response has the reply to its message.
 fn check_replies(rt: &impl Abort, alloc: Global, replies: &[String]) -> Result<(), Fail> {
     let exchanges = exchanges(alloc)?;
     assert_eq!(rt; replies.len(), exchanges.len());
@@ -262,7 +267,7 @@ fn check_replies(rt: &impl Abort, alloc: Global, replies: &[String]) -> Result<(
     Ok(())
 }
 
-// A file of this process and this test alone, and its log.
+// Returns the paths of a database file and its WAL that only this test in this process uses.
 fn paths(rt: &HostRuntime, name: &str) -> io::Result<(String, String)> {
     let folder = env::temp_dir(rt)?;
     let (folder, number) = (folder.as_str(), process::id(rt.process()));
@@ -282,11 +287,11 @@ fn remove(rt: &HostRuntime, path: &str, log: &str) -> io::Result<()> {
 #[test]
 fn a_batch_over_a_socket_is_reported_from_its_file(rt: HostRuntime) -> Result<(), Fail> {
     let (path, log) = paths(&rt, "asked")?;
-    // A report makes no file.
+    // A report creates no file.
     assert!(rt; report_of(&rt, path.as_str()).is_err());
     assert!(rt; !fs::exists(&rt, path.as_str())?);
     let first = replies_of(&rt, path.as_str())??;
-    // Now all come again, to the store that was taken up.
+    // All messages are sent again, to the store that is opened from the file.
     let second = replies_of(&rt, path.as_str())??;
     let text = report_of(&rt, path.as_str())??;
     remove(&rt, path.as_str(), log.as_str())?;
@@ -296,8 +301,8 @@ fn a_batch_over_a_socket_is_reported_from_its_file(rt: HostRuntime) -> Result<()
     Ok(())
 }
 
-// A copy of the file alone, made when `served` was written, is whole: its report has all that was
-// replied.
+// A copy of the database file without its WAL, made when the server writes `served`, is complete:
+// its report includes every request that got a reply.
 #[test]
 fn the_file_alone_is_whole_at_the_last_line(rt: HostRuntime) -> Result<(), Fail> {
     let (path, log) = paths(&rt, "run")?;
@@ -315,7 +320,7 @@ fn the_file_alone_is_whole_at_the_last_line(rt: HostRuntime) -> Result<(), Fail>
     Ok(())
 }
 
-// The event lines behind the first.
+// The event lines after the first.
 const EVENTS: &str =
     "answered status=409 code=70 name=not-finished request=\"POST /c/office/4 HTTP/1.1\"
 answered status=409 code=57 name=batch-closed request=\"POST /c/m1/3 HTTP/1.1\"
@@ -324,7 +329,7 @@ answered status=409 code=72 name=number-reused request=\"POST /c/office/1 HTTP/1
 closed connections=11
 ";
 
-// A server's replies, its two lines, and its event lines.
+// Checks the responses of a server, its two lines on standard output, and its event lines.
 fn check_ran(rt: &impl Abort, alloc: Global, ran: &Ran, opening: &str) -> Result<(), Fail> {
     let port = ran.port;
     let lines = format!(in alloc; "listening 127.0.0.1:{port}\nserved 11\n")?;

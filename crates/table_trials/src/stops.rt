@@ -1,9 +1,10 @@
-//! A run over files that fail from some call on: a stop at each call of either file.
+//! Tests of a run over files that fail after some number of calls, which simulates a crash at each
+//! call of either file.
 //!
-//! The arrival that meets the stop, and each behind it, gets the fault that the device failed.
-//! What is left of the files is opened again, also where power was lost: its rows are those from
-//! before that arrival, or those from after it. Where no power was lost the whole run comes again,
-//! to what was adopted.
+//! The arrival during which the files stop gets the fault `Device`, as do all later arrivals. The
+//! files that remain are opened again, as they are and after a simulated power failure. They
+//! contain the rows from before or after that arrival. If there was no power failure, the store is
+//! then opened, and the whole run is repeated.
 use crate::disks::{Ended, Left, Stop, close, nothing, open};
 use crate::exchanges::{Exchange, arrival, check_reply, reply_to};
 use crate::stories::{MADE_AGAIN, NUMBER_RELEASED, RELEASE, SET_UP};
@@ -14,7 +15,7 @@ use std::alloc::{AllocError, Global};
 use std::process::Abort;
 use std::test::Fail;
 
-// More calls than a run makes of a file.
+// A number of calls of a file that no run reaches.
 pub(crate) const MANY_CALLS: u64 = 10_000;
 
 pub(crate) const NO_STOP: Stop = Stop {
@@ -22,16 +23,16 @@ pub(crate) const NO_STOP: Stop = Stop {
     db: MANY_CALLS,
 };
 
-// The exchanges of a run, and the rows behind each of its steps. Before the first step there are
-// no tables, the first makes them, and each other is an exchange.
+// The exchanges of a run, and the rows after each of its steps. At first there are no tables. The
+// first step creates them, and every other step is an exchange.
 #[derive(Drop)]
 struct Run {
     exchanges: Vec<Exchange>,
     rows: Vec<String>,
 }
 
-// How many steps were made before the stop, the rows behind them where these are all, and what is
-// left of the files.
+// The number of steps that were completed before the files stopped, and the files that remain.
+// `rows` has the rows after the last exchange if all exchanges were completed.
 #[derive(Drop)]
 struct Stopped {
     steps: usize,
@@ -39,7 +40,8 @@ struct Stopped {
     ended: Ended,
 }
 
-// The set-up, a release of its numbers, and a card that is spoiled and made again.
+// Returns the exchanges of the set-up, a release of their request numbers, and a spoiled card that
+// is made again.
 fn exchanges(alloc: Global) -> Result<Vec<Exchange>, AllocError> {
     let mut all = Vec::new(alloc);
     for exchanges in [SET_UP.as_slice(), &[RELEASE], MADE_AGAIN.exchanges] {
@@ -48,8 +50,8 @@ fn exchanges(alloc: Global) -> Result<Vec<Exchange>, AllocError> {
     Ok(all)
 }
 
-// Sends exchanges to a store. Answers how many get their reply; each behind these gets the fault
-// that the device failed.
+// Sends `exchanges` to a store, and returns the number of exchanges that got their replies. Every
+// later exchange gets the fault `Device`.
 fn replies_before_stop<S: JobStore>(
     rt: &impl Abort,
     alloc: Global,
@@ -70,8 +72,8 @@ fn replies_before_stop<S: JobStore>(
     Ok(count)
 }
 
-// Sends a run again to a store that made so many steps of it. Each exchange gets the reply that it
-// gets in a run without a stop, but for released numbers.
+// Sends all exchanges of `run` again to a store that has completed `steps` of its steps. Every
+// exchange gets the same reply as in a run without a stop, unless its request number is released.
 fn check_replies_again<S: JobStore>(
     rt: &impl Abort,
     alloc: Global,
@@ -91,7 +93,7 @@ fn check_replies_again<S: JobStore>(
     Ok(())
 }
 
-// The rows of all tables of a database.
+// Returns the rows of all tables of a database.
 pub(crate) fn rows_of<S: Alter>(alloc: Global, conn: &mut Connection<S>) -> Result<String, Error> {
     let mut text = String::new(alloc);
     for table in conn.query_all("SELECT name FROM sqlite_master WHERE type = 'table'", &[])? {
@@ -114,7 +116,7 @@ pub(crate) fn put_rows<S: Alter>(
     Ok(())
 }
 
-// A store without facts, over an empty database.
+// Creates a store without facts in an empty database.
 pub(crate) fn created<S: Alter>(
     alloc: Global,
     conn: Connection<S>,
@@ -128,7 +130,7 @@ pub(crate) fn created<S: Alter>(
     }
 }
 
-// A store over a database of our tables.
+// Opens the store of a database that has the tables of a schema version.
 pub(crate) fn adopted<S: Alter + Drop>(
     alloc: Global,
     conn: Connection<S>,
@@ -142,8 +144,8 @@ pub(crate) fn adopted<S: Alter + Drop>(
     }
 }
 
-// Makes the steps of a run over an empty database. Answers how many steps were made, and the rows
-// behind them if these are all.
+// Performs the steps of a run on an empty database. Returns the number of completed steps, and the
+// rows after them if all were completed.
 fn steps_over<S: Alter + Drop>(
     rt: &impl Abort,
     alloc: Global,
@@ -163,7 +165,7 @@ fn steps_over<S: Alter + Drop>(
     Ok((answered.saturating_add(1), rows, conn))
 }
 
-// Makes the steps of a run over new files with this stop.
+// Performs the steps of a run on new files that stop at `stop`.
 fn steps_before_stop(
     rt: &impl Abort,
     alloc: Global,
@@ -184,8 +186,8 @@ fn steps_before_stop(
     }
 }
 
-// How many steps the rows of a database are behind, where so many were answered: these, or one
-// more.
+// Returns the number of steps after which a run has the rows of `conn`. It must be `answered`, the
+// number of completed steps, or higher by one.
 fn steps_of<S: Alter>(
     rt: &impl Abort,
     alloc: Global,
@@ -200,8 +202,8 @@ fn steps_of<S: Alter>(
     Ok(answered.saturating_add(behind.unwrap_or(0)))
 }
 
-// Sends a run again to a store that made so many steps of it. At the end its rows are those of a
-// run without a stop.
+// Sends all exchanges of `run` again to a store that has completed `steps` of its steps. Afterwards
+// the store has the same rows as after a run without a stop.
 fn check_again<S: Alter + Drop>(
     rt: &impl Abort,
     alloc: Global,
@@ -216,8 +218,9 @@ fn check_again<S: Alter + Drop>(
     Ok(())
 }
 
-// A database has the rows of the steps that were answered, or of one more. Then, where the run is
-// to be sent again, an empty one gets our tables, and any other is adopted.
+// Checks that a database has the rows after the completed steps, or after one more step. If
+// `sends_again` is true, it then creates the tables in an empty database, or opens the store of any
+// other database, and repeats the run.
 fn check_over<S: Alter + Drop>(
     rt: &impl Abort,
     alloc: Global,
@@ -239,7 +242,7 @@ fn check_over<S: Alter + Drop>(
     }
 }
 
-// What is left of files is opened again.
+// Opens the files that remain, and checks their rows.
 fn check_left(
     rt: &impl Abort,
     alloc: Global,
@@ -254,7 +257,7 @@ fn check_left(
     }
 }
 
-// The run, with its rows, where nothing stops it.
+// Returns the exchanges of a run without a stop, with the rows after each of its steps.
 fn whole_run(rt: &impl Abort, alloc: Global) -> Result<Run, Fail> {
     let exchanges = exchanges(alloc)?;
     let mut rows = Vec::new(alloc);
@@ -268,8 +271,9 @@ fn whole_run(rt: &impl Abort, alloc: Global) -> Result<Run, Fail> {
     Ok(Run { exchanges, rows })
 }
 
-// Makes the steps of a run over files with this stop, and looks at what is left. The whole run is
-// sent again to what stands there, where no power was lost. Answers whether the run met the stop.
+// Performs the steps of `run` on files that stop at `stop`, and checks the files that remain. If
+// there was no power failure, the whole run is then repeated. Returns `true` if the run met the
+// stop.
 fn has_met(rt: &impl Abort, alloc: Global, run: &Run, stop: Stop) -> Result<bool, Fail> {
     let exchanges = run.exchanges.as_slice();
     let made = steps_before_stop(rt, alloc, exchanges, stop)?;
@@ -279,7 +283,8 @@ fn has_met(rt: &impl Abort, alloc: Global, run: &Run, stop: Stop) -> Result<bool
     Ok(made.steps <= exchanges.len() || !made.ended.is_closed)
 }
 
-// A stop at each call, until a run meets none.
+// Checks a stop at each call of the WAL, or of the database file if `is_log` is false, until a run
+// doesn't meet its stop.
 fn check_stops(rt: &impl Abort, alloc: Global, is_log: bool) -> Result<(), Fail> {
     let run = whole_run(rt, alloc)?;
     for calls in 0..MANY_CALLS {

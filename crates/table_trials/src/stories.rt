@@ -1,23 +1,27 @@
-//! Stories of exchanges, and how batch B1 and the blanks of product P1 stand at their ends.
+//! Stories, which are lists of exchanges, with the accounts of batch B1 and of the blanks of
+//! product P1 at their ends.
 use crate::bodies::{
     accepted, answer, command, ended, imported, lot, made, open, opened, product, refused,
 };
 use crate::exchanges::Exchange;
 
-/// Exchanges behind those that stock a store, and how batch B1 and the blanks of P1 stand then.
+/// Exchanges that prepare a store, the exchanges that follow, and the accounts of batch B1 and of
+/// the blanks of P1 at the end.
 #[derive(Clone, Copy)]
 pub(crate) struct Story {
     pub(crate) stock: &'static [Exchange],
     pub(crate) exchanges: &'static [Exchange],
-    /// Records, waiting, running, failed, withdrawn, good, sessions, spoiled.
+    /// The account of batch B1: records, waiting, running, failed, withdrawn, good, sessions,
+    /// spoiled.
     pub(crate) batch: [u64; 8],
-    /// Lots, total, good, running, spoiled, discarded.
+    /// The account of the blanks of P1: lots, total, good, running, spoiled, discarded.
     pub(crate) blanks: [u64; 6],
 }
 
 const ONE_ROW: &str = "record,aid,rank,enc,tol,dgi\nR1,F00000000101,1,0,0,0101027000\n";
 
-/// Product P1, lot L1 of three blanks from 1000, and batch B1 of one record with one grouping.
+/// The set-up: product P1, lot L1 of three blanks from serial 1000, and batch B1 with one record
+/// and one grouping.
 pub(crate) const SET_UP: [Exchange; 3] = [
     accepted!("/c/office/1", product!("P1", 255), made!("product", "P1")),
     accepted!("/c/office/2", lot!("L1", "P1", 1000, 3), made!("lot", "L1")),
@@ -58,7 +62,7 @@ const IN: Exchange = accepted!(
     command!("80E28000050101027000", 1, 1)
 );
 
-/// A spoiled card, its remake, and a second card that is good.
+/// A spoiled card, a remake of its record, and a second card, which is good.
 pub(crate) const MADE_AGAIN: Story = Story {
     stock: &SET_UP,
     exchanges: &[
@@ -79,7 +83,7 @@ pub(crate) const MADE_AGAIN: Story = Story {
     blanks: [1, 3, 1, 0, 1, 0],
 };
 
-/// The greatest numbers: a lot's last serials, a request's number, a mark, a rank and a word; and a
+/// Requests with the highest serials, request number, release mark, rank and status word, and a
 /// second batch.
 pub(crate) const GREATEST: [Exchange; 9] = [
     accepted!("/c/office/1", product!("P1", 255), made!("product", "P1")),
@@ -113,7 +117,7 @@ pub(crate) const GREATEST: [Exchange; 9] = [
     ),
 ];
 
-/// A batch whose card was spoiled, closed with its record withdrawn.
+/// A batch whose only card is spoiled. Its record is withdrawn, and the batch is closed.
 pub(crate) const CLOSING: Story = Story {
     stock: &SET_UP,
     exchanges: &[
@@ -129,7 +133,8 @@ pub(crate) const CLOSING: Story = Story {
     blanks: [1, 3, 0, 0, 1, 0],
 };
 
-/// A card that is given up, its remakes, and its withdrawal.
+/// A card that is aborted, a card that a reset ends, the remakes of their record, and its
+/// withdrawal.
 pub(crate) const WITHDRAWAL: Story = Story {
     stock: &SET_UP,
     exchanges: &[
@@ -152,8 +157,8 @@ pub(crate) const WITHDRAWAL: Story = Story {
     blanks: [1, 3, 0, 0, 2, 1],
 };
 
-/// A repeat, words out of turn, a number and a session that are others', and a machine that is
-/// busy.
+/// A repeat, status words out of turn, a used request number, a session of another machine, and a
+/// busy machine.
 pub(crate) const TURNED_DOWN: Story = Story {
     stock: &SET_UP,
     exchanges: &[
@@ -170,7 +175,7 @@ pub(crate) const TURNED_DOWN: Story = Story {
     blanks: [1, 3, 0, 1, 0, 0],
 };
 
-/// Words at a tolerant segment in two pieces.
+/// Status words for a tolerant segment in two pieces.
 pub(crate) const WORDS: Story = Story {
     stock: &[
         accepted!("/c/office/1", product!("P1", 16), made!("product", "P1")),
@@ -214,7 +219,7 @@ pub(crate) const WORDS: Story = Story {
     blanks: [1, 4, 1, 0, 3, 0],
 };
 
-/// The batch again, another file under its name, and a file without rows.
+/// An import of the same batch, an import of another file under its name, and a file without rows.
 pub(crate) const KNOWN: Story = Story {
     stock: &SET_UP,
     exchanges: &[
@@ -235,7 +240,7 @@ pub(crate) const KNOWN: Story = Story {
     blanks: [1, 3, 0, 0, 0, 0],
 };
 
-/// Blanks that can't be taken, and lots that overlap.
+/// Blanks that can't be opened, and lots that overlap.
 pub(crate) const TAKEN: Story = Story {
     stock: &SET_UP,
     exchanges: &[
@@ -259,7 +264,7 @@ pub(crate) const TAKEN: Story = Story {
     blanks: [2, 8, 0, 1, 0, 1],
 };
 
-/// A late reset ends the session that runs when it comes.
+/// A late reset, which ends the session that is running when the reset arrives.
 pub(crate) const LATE_RESET: Story = Story {
     stock: &SET_UP,
     exchanges: &[
@@ -272,20 +277,20 @@ pub(crate) const LATE_RESET: Story = Story {
     blanks: [1, 3, 0, 0, 1, 0],
 };
 
-/// The office releases the numbers of the set-up.
+/// A release of the request numbers of the set-up by the office.
 pub(crate) const RELEASE: Exchange = accepted!(
     "/c/office/20",
     r#"{"do":"release","upto":3}"#,
     r#"{"mark":3,"result":"released"}"#
 );
 
-/// The reply to one of these numbers then.
+/// The reply to a request with one of the released numbers.
 pub(crate) const NUMBER_RELEASED: &str = r#"{"code":73,"mark":3,"refused":"number-released"}"#;
 
-/// The last blank of the lot is discarded.
+/// A request that discards the last blank of the lot.
 pub(crate) const LAST_DISCARDED: Exchange = accepted!("/c/other/2", DISCARD, DISCARDED);
 
-/// One of these comes late.
+/// A repeat of a request of the set-up after its number was released.
 pub(crate) const LATE: Exchange = Exchange(
     "/c/office/2",
     lot!("L1", "P1", 1000, 3),
@@ -293,7 +298,8 @@ pub(crate) const LATE: Exchange = Exchange(
     NUMBER_RELEASED,
 );
 
-/// Numbers that are released, in turn and out of it.
+/// Releases of request numbers: of the set-up, of a number that isn't below its own, and of a
+/// number that is already released. After the first one, a late repeat arrives.
 pub(crate) const RELEASES: Story = Story {
     stock: &SET_UP,
     exchanges: &[

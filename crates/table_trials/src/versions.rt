@@ -1,8 +1,8 @@
-//! Tables of earlier versions are adopted: files that stop at each call of their making anew, and
-//! refused memory. Files of our own tables stay as they are.
+//! Tests that files of earlier schema versions are opened, even if the upgrade crashes at some call
+//! of a file or an allocation fails. Files of version 3 aren't changed.
 //!
-//! The rows and the schema of what is adopted are those of the same exchanges in our own tables.
-//! The tests over tables in memory say the same whichever one allocation is refused.
+//! An opened database has the rows and the schema that the same exchanges produce in version 3. The
+//! tests over tables in memory have the same result if any single allocation fails.
 use crate::bodies::{accepted, made, product};
 use crate::disks::{Ended, Left, Stop, close, nothing, open};
 use crate::exchanges::{Exchange, arrival, at_last, check_reply, reply_to};
@@ -16,7 +16,8 @@ use std::alloc::{AllocError, Global};
 use std::process::Abort;
 use std::test::Fail;
 
-// A version: what is asked behind the set-up, and what turns our own tables into its.
+// A schema version: the exchanges that follow the set-up, and the statements that convert tables of
+// version 3 to it.
 #[derive(Clone, Copy)]
 pub(crate) struct Version {
     pub(crate) asked: &'static [Exchange],
@@ -42,19 +43,19 @@ const TEXTS_OF_ONE: [&str; 7] = [
     "INSERT INTO version (id, number) VALUES (1, 1)",
 ];
 
-// It knows two encipherment marks, and no released numbers.
+// Version 1: `enc` has two values, and there are no released request numbers.
 pub(crate) const ONE: Version = Version {
     asked: &[],
     texts: &TEXTS_OF_ONE,
 };
 
-// The same, where the last blank of the lot is discarded, and so charged.
+// Version 1, in which the last blank of the lot is discarded and therefore charged.
 const LAST_CHARGED: Version = Version {
     asked: &[LAST_DISCARDED],
     texts: &TEXTS_OF_ONE,
 };
 
-// It knows released numbers.
+// Version 2: as version 1, but with released request numbers.
 pub(crate) const TWO: Version = Version {
     asked: &[RELEASE],
     texts: &[
@@ -68,30 +69,31 @@ pub(crate) const TWO: Version = Version {
     ],
 };
 
-// Our own.
+// Version 3, which is the current version.
 pub(crate) const THREE: Version = Version {
     asked: &[RELEASE],
     texts: &[],
 };
 
-// A product whose name comes before that of the set-up, so that in order of their names products
-// stand in another order than they were put in.
+// A product whose name sorts before the name of the product in the set-up. The order of the
+// products by name therefore differs from the order in which they were inserted.
 const EARLIER_NAME: Exchange = accepted!("/c/other/1", product!("P0", 255), made!("product", "P0"));
 
-// Our own, with such products.
+// Version 3, with products that weren't inserted in the order of their names.
 const OUT_OF_ORDER: Version = Version {
     asked: &[RELEASE, EARLIER_NAME],
     texts: &[],
 };
 
-// What was done to files: the rows then, if it came to its end, and what is left of the files.
+// The result of working on two files: the rows afterwards if the work was completed, and the files
+// that remain.
 #[derive(Drop)]
 struct Done {
     rows: Option<String>,
     ended: Ended,
 }
 
-// The rows of all tables, and those of the schema.
+// Returns the rows of all tables and of the schema.
 pub(crate) fn all_rows<S: Alter>(alloc: Global, conn: &mut Connection<S>) -> Result<String, Error> {
     let mut text = rows_of(alloc, conn)?;
     put_rows(alloc, conn, "sqlite_master", &mut text)?;
@@ -107,13 +109,13 @@ fn sorted(alloc: Global, rows: &str) -> Result<Vec<&str>, AllocError> {
     Ok(lines)
 }
 
-// Rows are the same, in whichever order they stand.
+// Checks that the rows are the same in any order.
 fn check_same(rt: &impl Abort, alloc: Global, found: &str, wanted: &str) -> Result<(), AllocError> {
     assert_eq!(rt; sorted(alloc, found)?, sorted(alloc, wanted)?);
     Ok(())
 }
 
-// Exchanges are sent to a store.
+// Sends `exchanges` to a store and checks the replies.
 pub(crate) fn send_all<S: JobStore>(
     rt: &impl Abort,
     alloc: Global,
@@ -127,8 +129,9 @@ pub(crate) fn send_all<S: JobStore>(
     Ok(())
 }
 
-// Tables of a version, from a store without facts that gets the set-up, what is asked behind it,
-// and a card that is spoiled and made again. Answers their rows in our own tables too.
+// Returns a database of a version, made with `store`, which has no facts yet: it gets the set-up,
+// the exchanges of the version, and a spoiled card that is made again. Also returns the rows before
+// the conversion from version 3.
 pub(crate) fn turned<S: Alter + Drop>(
     rt: &impl Abort,
     alloc: Global,
@@ -141,7 +144,7 @@ pub(crate) fn turned<S: Alter + Drop>(
     turned_over(alloc, version, store)
 }
 
-// Tables of a version, from a store. Answers their rows in our own tables too.
+// Converts the tables of `store` to a version. Also returns the rows before the conversion.
 fn turned_over<S: Alter + Drop>(
     alloc: Global,
     version: &Version,
@@ -155,7 +158,8 @@ fn turned_over<S: Alter + Drop>(
     Ok((rows, conn))
 }
 
-// Adopts a database. Answers its rows then, if no device failed.
+// Opens the store of a database. Returns the rows of the database afterwards, unless the device
+// failed.
 fn taken<S: Alter + Drop>(
     rt: &impl Abort,
     alloc: Global,
@@ -180,7 +184,8 @@ fn taken<S: Alter + Drop>(
     }
 }
 
-// Makes tables of a version in an empty database, or adopts one where no version is said.
+// Creates tables of `version` in an empty database. If `version` is `None`, opens the store of the
+// database instead.
 fn worked<S: Alter + Drop>(
     rt: &impl Abort,
     alloc: Global,
@@ -199,7 +204,8 @@ fn worked<S: Alter + Drop>(
     }
 }
 
-// Makes tables of a version, or adopts them, in files that hold this, with this stop.
+// Creates tables of `version`, or opens the store if `version` is `None`, in files with the
+// contents `left` that stop at `stop`.
 fn over_files(
     rt: &impl Abort,
     alloc: Global,
@@ -220,8 +226,9 @@ fn over_files(
     }
 }
 
-// Adopts files with this stop. What is left of them is adopted then, also where power was lost,
-// and has these rows. Answers whether the stop was met.
+// Opens the store in files that stop at `stop`. The files that remain, as they are and after a
+// simulated power failure, can then be opened and have the rows `rows`. Returns `true` if the stop
+// was met.
 fn has_met(
     rt: &impl Abort,
     alloc: Global,
@@ -239,7 +246,7 @@ fn has_met(
     Ok(stopped.rows.is_none() || !stopped.ended.is_closed)
 }
 
-// Opens files and closes them.
+// Opens files as a database and closes them, without opening a store.
 fn reopened(alloc: Global, files: &Left) -> Result<Ended, Fail> {
     match open(alloc, files, NO_STOP) {
         Ok(conn) => Ok(close(alloc, conn)?),
@@ -247,8 +254,9 @@ fn reopened(alloc: Global, files: &Left) -> Result<Ended, Fail> {
     }
 }
 
-// Adopts files of a version, which have the same rows then. Answers whether each of their bytes is
-// as it is after an open and a close alone, so that nothing was written.
+// Opens the store in files of a version, and checks that they have the same rows afterwards.
+// Returns `true` if the store wrote nothing: every byte of the files is the same as after opening
+// and closing only the database.
 fn stay(rt: &impl Abort, alloc: Global, version: &Version) -> Result<bool, Fail> {
     let made = over_files(rt, alloc, Some(version), &nothing(alloc), NO_STOP)?;
     let rows = made.rows.ok_or("no rows")?;
@@ -259,7 +267,8 @@ fn stay(rt: &impl Abort, alloc: Global, version: &Version) -> Result<bool, Fail>
     Ok(adopted.ended.lefts == reopened(alloc, files)?.lefts)
 }
 
-// A stop at each call of the log, or of the database, until files of a version meet none.
+// Checks a stop at each call of the WAL, or of the database file if `is_log` is false, until the
+// files are opened without meeting a stop.
 fn check_stops(
     rt: &impl Abort,
     alloc: Global,
@@ -283,8 +292,8 @@ fn check_stops(
     Err(Fail::new("each adoption met a stop"))
 }
 
-// Tables of a version are adopted from a store without facts. Where memory is refused, they stand
-// as before, and are adopted when it comes again.
+// Checks that a database of a version, made with `store`, is opened. If an allocation fails, its
+// rows don't change, and it can be opened afterwards.
 fn check_memory<S: Alter + Drop>(
     rt: &impl Abort,
     alloc: Global,
@@ -295,7 +304,7 @@ fn check_memory<S: Alter + Drop>(
     check_adopted(rt, alloc, rows.as_str(), conn)
 }
 
-// A database is adopted, and has these rows then.
+// Checks that a database is opened and has the rows `rows` afterwards.
 fn check_adopted<S: Alter + Drop>(
     rt: &impl Abort,
     alloc: Global,

@@ -1,5 +1,5 @@
-//! A file next to its WAL, as a crash of the server leaves them: a book is read from both, and
-//! neither is changed. Each test has a folder of its own on the disk.
+//! A database file and its WAL, as a crash of the server leaves them: `shopbook` reads both and
+//! changes neither. Each test has its own folder on the disk.
 use crate::causes::{book_cause_at, folder_of, within, write};
 use crate::stops::created;
 use crate::stories::{MADE_AGAIN, SET_UP};
@@ -16,8 +16,8 @@ use std::process::Abort;
 use std::test::Fail;
 use store_files::has_log;
 
-// A store in the file at `path`, with the set-up and a card that is spoiled and made again.
-fn served(
+/// Returns a store in the file at `path`, with the set-up, a spoiled card, and its good remake.
+pub(crate) fn served(
     ends: &impl Abort,
     rt: &HostRuntime,
     path: &str,
@@ -29,7 +29,8 @@ fn served(
     Ok(store)
 }
 
-// The book of the file at `path` has both sessions of the card, and leaves the file.
+// Checks that the rows read from the file at `path` have both sessions, and that the file is
+// unchanged.
 fn check_book(ends: &impl Abort, rt: &HostRuntime, path: &str) -> Result<(), Fail> {
     let before = fs::read(rt, path)?;
     let book = book_in(rt, path, Unknown).0?;

@@ -1,4 +1,4 @@
--- What a reader gave that was asked for a limited number of bytes.
+-- The bytes from a reader that was asked for at most `limit` bytes.
 use Rattle.std.proofs.Common.{ℕ, ◌<◌, ◌≤◌, List, length, take, Option, Some, None, option_map, refl, sym, ap, ◌∙◌, arith}
 use Rattle.std.proofs.lemmas.List.{length-take, take_all}
 use Rattle.text_io.specs.Inputs.{Agrees}

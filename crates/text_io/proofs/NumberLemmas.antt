@@ -1,4 +1,4 @@
--- Decimal numbers from 1, of at most 18 digits.
+-- Decimal numbers from 1 with at most 18 digits.
 use Rattle.std.proofs.Common.{◌≡◌, ℕ, ◌+◌, ◌*◌, ◌-◌, ◌^◌, ◌<◌, ◌≤◌, ◌==◌, true, List, [], ◌∷◌, length, take, get_or, sym, ap, ◌∙◌, arith}
 use Rattle.std.specs.Prelude.{◌&&◌, nat_le, not}
 use Rattle.std.specs.Char.{digit_value, is_ascii_digit}
@@ -12,7 +12,7 @@ use Rattle.std.proofs.lemmas.Int.Digits.{digits_value-lt, digits_value_more}
 use Rattle.std.proofs.lemmas.Str.Parse.{digits_value-take-le}
 use Rattle.text_io.specs.Numbers.{is_number}
 
--- what digits have to be to be a number
+-- `text` is 1 to 18 decimal digits, and the first isn't 0
 pub record IsNumber (text : List ℕ) : Type 0 where
   pub some : 1 ≤ length text
   pub few : length text ≤ 18
@@ -57,7 +57,8 @@ number_is_some (c ∷ text) h =
     let first : 1 ≤ digit_value c = omega (arith, digit_of c digit.0, at_least_0 c digit.0, h.first) in
     omega (arith, least, first)
 
--- one digit more
+-- The value of the first `i + 1` digits is ten times the value of the first `i` digits plus the
+-- next digit.
 pub number_more : (text : List ℕ) (i : ℕ) → IsNumber text → i < length text → digits_value 10 (take i text) * 10 + (get_or text i 0 - 48) ≡ digits_value 10 (take (i + 1) text)
 number_more text i h within =
     ap (λ d. digits_value 10 (take i text) * 10 + d) (sym (digit_of (get_or text i 0) (AllPass-from_list_all is_ascii_digit text h.digits i 0 within)))

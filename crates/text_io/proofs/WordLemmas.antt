@@ -1,4 +1,4 @@
--- Words of four hexadecimal digits.
+-- Status words: four hexadecimal digits.
 use Rattle.std.proofs.Common.{◌≡◌, ◌<◌, ◌^◌, ℕ, zero, suc, true, false, cond, List, [], ◌∷◌, length, drop, Some, None, Result, Ok, Err, MatchResult, refl, sym, subst, ap, ◌∙◌, arith}
 use Rattle.std.specs.Prelude.{IsUtf8, ◌==◌}
 use Rattle.std.specs.Char.{digit_value, is_ascii_hexdigit}
@@ -22,7 +22,7 @@ ascii [] h i = omega arith
 ascii (c ∷ text) h zero = small c (and_parts (is_ascii_hexdigit c) (list_all is_ascii_hexdigit text) h).0
 ascii (c ∷ text) h (suc i) = ascii text (and_parts (is_ascii_hexdigit c) (list_all is_ascii_hexdigit text) h).1 i
 
--- they are text
+-- A status word is valid UTF-8.
 pub word_text : (text : List ℕ) → is_word text ≡ true → IsUtf8 text
 word_text text word = IsUtf8-from_ascii text (ascii text (and_parts _ _ word).1)
 
@@ -43,7 +43,7 @@ plain [] h = refl
 plain (c ∷ text) h =
     ap (λ b. drop (cond b 1 0) (c ∷ text)) (no_plus c (and_parts (is_ascii_hexdigit c) (list_all is_ascii_hexdigit text) h).0)
 
--- and are read as their number
+-- Parsing a status word as a hexadecimal number of 16 bits returns its value.
 pub word_number : {E : Type 0} (text : List ℕ) (r : Result ℕ E) → is_word text ≡ true → ParsesUnsigned 16 16 text r → result_ok r ≡ status_word text
 word_number text r word parsed =
     let parts = and_parts (length text == 4) (list_all is_ascii_hexdigit text) word in
@@ -54,7 +54,7 @@ word_number text r word parsed =
     ap result_ok (Ok-from_Ok_iff r _ _ own ((omega arith, digits), small))
     ∙ sym (ap (λ b. cond b (Some (digits_value 16 text)) None) word)
 
--- ---- bytes read as text
+-- ---- bytes parsed as text
 
 pub none_unread : {A E : Type 0} (P : A → Type 0) (Q : E → Type 0) (r : Result A E) → MatchResult r P Q → ((e : E) → Q e → ⊥) → result_ok r ≡ None → ⊥
 none_unread P Q (Ok x) held apart none = none-some_is none

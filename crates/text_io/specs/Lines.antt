@@ -1,22 +1,22 @@
--- Lines and words (this project's profile).
+-- The lines of a text and the words of a line (this project's profile).
 use Rattle.std.specs.Prelude.{ℕ, ◌+◌, ◌-◌, ◌==◌, Bool, nat_eq, List, [], length, take, drop, codes, position, Option, option_map, if◌then◌else◌}
 use Rattle.std.specs.List.{ends_with, slice_split}
 
 abbrev pub without_end : List ℕ → List ℕ
 without_end text = if ends_with nat_eq text (codes "\n") then take (length text - 1) text else text
 
--- the lines of a text, each without its LF; the last may lack it
+-- the lines of `text` without their LF; the last line may lack one
 abbrev pub lines : List ℕ → List (List ℕ)
 lines text = if length text == 0 then [] else slice_split (λ b. b == 10) (without_end text)
 
--- the words of a line, with one space between
+-- the words of a line, which are separated by single spaces
 abbrev pub words : List ℕ → List (List ℕ)
 words text = slice_split (λ b. b == 32) text
 
--- what stands before the first that passes, and behind it
+-- the items before and after the first item that passes
 abbrev pub cut : {T : Type 0} → (T → Bool) → List T → Option (List T × List T)
 cut passes xs = option_map (λ i. (take i xs, drop (i + 1) xs)) (position passes xs)
 
--- a line's first word, and what stands behind its space
+-- the first word of a line, and the rest after its space
 abbrev pub word_of : List ℕ → Option (List ℕ × List ℕ)
 word_of text = cut (λ b. b == 32) text

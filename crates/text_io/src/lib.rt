@@ -1,5 +1,5 @@
-//! An input read whole, its lines and words and the numbers that they spell; and a text written
-//! whole, or a beginning of it where the writer fails.
+//! Reads a complete input, splits it into lines and words, parses numbers, and writes a complete
+//! text to a writer. Only the functions with a parameter `alloc` allocate.
 #![tactic(auto)]
 
 mod lines;

@@ -1,11 +1,14 @@
-//! Lines, and words.
+//! Splits a text into lines and a line into words.
 ghost use Rattle.std.specs.Prelude.{◌≡◌, ◌==◌, IfOk, map, option_map, position};
 ghost use Rattle.text_io.specs.Lines.{lines, word_of, without_end, words};
 
 use std::alloc::{AllocError, Global};
 
-/// The lines of a text, each without its LF; the last may lack it. It fails only where memory is
-/// refused.
+/// Returns the lines of `text` without their LF. The last line may lack one.
+///
+/// # Errors
+///
+/// Fails only if an allocation fails.
 pub fn lines_of(alloc: Global, text: &[u8]) -> Result<Vec<&[u8]>, AllocError>
     ensures { IfOk result (λ found. map (λ l. l.now) found.items ≡ lines text.now) }
 {
@@ -15,7 +18,7 @@ pub fn lines_of(alloc: Global, text: &[u8]) -> Result<Vec<&[u8]>, AllocError>
     without_end(text).split(|b| *b == b'\n').collect(alloc)
 }
 
-// A text without its last LF, if it ends in one.
+// Removes the LF at the end of `text`, if there is one.
 fn without_end(text: &[u8]) -> &[u8]
     ensures { result.now ≡ without_end text.now }
 {
@@ -26,15 +29,19 @@ fn without_end(text: &[u8]) -> &[u8]
     }
 }
 
-/// The words of a line, with one space between; an empty line has one, which is empty. It fails
-/// only where memory is refused.
+/// Returns the words of `line`, which are separated by single spaces. An empty line has one word,
+/// the empty one.
+///
+/// # Errors
+///
+/// Fails only if an allocation fails.
 pub fn words_of(alloc: Global, line: &[u8]) -> Result<Vec<&[u8]>, AllocError>
     ensures { IfOk result (λ found. map (λ w. w.now) found.items ≡ words line.now) }
 {
     line.split(|b| *b == b' ').collect(alloc)
 }
 
-/// What stands before the first space, and behind it.
+/// Splits `text` at its first space. Returns `None` if it has no space.
 pub fn word_of(text: &[u8]) -> Option<(&[u8], &[u8])>
     ensures { option_map (λ p. (p.0.now, p.1.now)) result ≡ word_of text.now }
 {
@@ -42,7 +49,7 @@ pub fn word_of(text: &[u8]) -> Option<(&[u8], &[u8])>
     Some((&text[..at], &text[at + 1..]))
 }
 
-// Where the first space is.
+// Returns the position of the first space.
 fn space_in(text: &[u8]) -> Option<usize>
     ensures { result ≡ position (λ b. b == 32) text.now }
 {

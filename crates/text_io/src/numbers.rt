@@ -1,4 +1,4 @@
-//! The numbers that a text spells.
+//! Parses decimal numbers and status words.
 ghost use Rattle.std.specs.Prelude.{◌≡◌, ◌<◌, ◌≤◌, ◌^◌, IfSome, true};
 ghost use Rattle.std.specs.List.{list_all};
 ghost use Rattle.std.specs.Char.{is_ascii_digit, is_ascii_hexdigit};
@@ -6,10 +6,10 @@ ghost use Rattle.std.specs.Str.Parse.{digits_value};
 ghost use Rattle.text_io.specs.Numbers.{is_number, is_word, number_in, number_of, number_within};
 ghost use Rattle.text_io.specs.Numbers.{status_word};
 
-/// The most digits of a number from 1 (this project's profile).
+/// The maximum number of digits of a number (this project's profile).
 const MOST_DIGITS: usize = 18;
 
-/// Whether a text is a number from 1: 1 to 18 decimal digits, the first of which is not 0 (this
+/// Returns `true` if `text` is a number from 1: 1 to 18 decimal digits without a leading zero (this
 /// project's profile).
 pub fn is_number(text: &[u8]) -> bool
     ensures { result ≡ is_number text.now }
@@ -17,14 +17,15 @@ pub fn is_number(text: &[u8]) -> bool
     1 <= text.len() && text.len() <= MOST_DIGITS && are_digits(text) && text[0] != b'0'
 }
 
-/// Whether each byte of a text is a decimal digit.
+/// Returns `true` if every byte of `text` is a decimal digit.
 pub fn are_digits(text: &[u8]) -> bool
     ensures { result ≡ list_all is_ascii_digit text.now }
 {
     text.iter().all(|byte| byte.is_ascii_digit())
 }
 
-/// The number from 1 that a text is.
+/// Parses a number from 1: 1 to 18 decimal digits without a leading zero. Returns `None` for any
+/// other text.
 pub fn number_in(text: &[u8]) -> Option<u64>
     ensures value { result ≡ number_in text.now }
     ensures range { IfSome result (λ n. (1 ≤ n) × (n < 10 ^ 18)) }
@@ -47,7 +48,8 @@ fn decimal(digits: &[u8]) -> u64
     number
 }
 
-/// A decimal number from the least to the most, of at most 18 digits and without leading zeros.
+/// Parses a decimal number from `least` to `most`, of at most 18 digits and without leading zeros.
+/// Returns `None` for any other text.
 pub fn number_within(text: &[u8], least: u64, most: u64) -> Option<u64>
     ensures value { result ≡ number_within least most text.now }
     ensures least { IfSome result (λ n. least ≤ n) }
@@ -71,7 +73,8 @@ fn number_of(text: &[u8]) -> Option<u64>
     }
 }
 
-/// The status word of four hexadecimal digits, of either case.
+/// Parses a status word (SW1-SW2 of ISO/IEC 7816-4): four hexadecimal digits of either case.
+/// Returns `None` for any other text.
 pub fn status_word(text: &[u8]) -> Option<u16>
     ensures { result ≡ status_word text.now }
 {

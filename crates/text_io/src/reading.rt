@@ -1,4 +1,4 @@
-//! An input, read to its end.
+//! Reads a complete input.
 ghost use Rattle.std.specs.Prelude.{◌≡◌, ℕ, List, IfOk};
 ghost use Rattle.std.specs.IoError.{error_kind};
 ghost use Rattle.text_io.specs.Inputs.{Agrees, IsWithin, fault_of, fault_text};
@@ -8,15 +8,15 @@ use std::error::Error;
 use std::fmt;
 use std::io::{self, ErrorKind, Read};
 
-/// The most bytes of a batch file, and of a request's body (this project's profile).
+/// The maximum size of a batch file and of a request's body, in bytes (this project's profile).
 pub const MOST_INPUT: u32 = 16_777_216;
 
-/// Why an input wasn't read.
+/// A reason why an input couldn't be read.
 #[derive(Clone, Copy, Debug, PartialEq, Eq)]
 pub enum ReadFault {
     /// A read failed.
     Failed,
-    /// Memory was refused.
+    /// An allocation failed.
     Memory,
 }
 
@@ -47,7 +47,12 @@ impl fmt::Display for ReadFault {
 
 impl Error for ReadFault {}
 
-/// All that a reader gives. Errors: a failed read; refused memory.
+/// Reads `reader` to its end.
+///
+/// # Errors
+///
+/// - `Failed`: a read fails.
+/// - `Memory`: an allocation fails.
 pub fn read_whole<R: Read>(alloc: Global, reader: &mut R) -> Result<Vec<u8>, ReadFault>
     ensures { IfOk result (λ raw. Agrees (R.remaining reader.old) raw.items) }
 {
@@ -56,8 +61,13 @@ pub fn read_whole<R: Read>(alloc: Global, reader: &mut R) -> Result<Vec<u8>, Rea
     Ok(raw)
 }
 
-/// All that a reader gives, or `None` where that is over `most` bytes: one more is read at most.
-/// Errors: a failed read; refused memory.
+/// Reads `reader` to its end if it has at most `most` bytes. Otherwise it reads `most + 1` bytes
+/// and returns `None`.
+///
+/// # Errors
+///
+/// - `Failed`: a read fails.
+/// - `Memory`: an allocation fails.
 pub fn read_within<R: Read>(
     alloc: Global,
     reader: &mut R,

@@ -1,4 +1,4 @@
-//! A text written whole, or a beginning of it where the writer fails.
+//! Writes a complete text to a writer.
 ghost use Rattle.std.specs.Prelude.{◌≤◌, length, take};
 ghost use Rattle.std.specs.Io.KnownBytes.{Appends};
 ghost use Rattle.text_io.specs.Written.{Writes};
@@ -7,7 +7,7 @@ use std::error::Error;
 use std::fmt;
 use std::io::Write;
 
-/// A write failed, or took nothing.
+/// The error of a write that failed or accepted no bytes.
 #[derive(Clone, Copy, Debug, PartialEq, Eq)]
 pub struct WriteFailed;
 
@@ -23,7 +23,11 @@ impl fmt::Display for WriteFailed {
 
 impl Error for WriteFailed {}
 
-/// Writes the whole text, or a beginning of it where the writer fails.
+/// Writes `text` to `writer`.
+///
+/// # Errors
+///
+/// Fails if a write fails or accepts no bytes. Only a prefix of `text` was written then.
 pub fn write_text<W: Write>(writer: &mut W, text: &[u8]) -> Result<(), WriteFailed>
     ensures { Writes (W.contents writer.old) (W.contents writer.new) text.now result }
 {
@@ -38,7 +42,7 @@ pub fn write_text<W: Write>(writer: &mut W, text: &[u8]) -> Result<(), WriteFail
     Ok(())
 }
 
-// How many bytes the writer took; a failed write took none.
+// Returns the number of bytes that the writer accepted. A failed write accepts none.
 fn write_some<W: Write>(writer: &mut W, text: &[u8]) -> usize
     ensures bound { result ≤ length text.now }
     ensures bytes { Appends (W.contents writer.old) (W.contents writer.new) (take result text.now) }

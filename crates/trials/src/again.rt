@@ -1,5 +1,6 @@
-//! Asking again where memory was refused. So each test says the same whichever one allocation is
-//! refused, in its set-up too.
+//! Repeats calls that run out of memory. A test therefore has the same result if any single
+//! allocation fails, even one of its set-up. `bench/run refused` makes each allocation fail in
+//! turn.
 use arguments::WordsFault;
 use batch_import::ImportFault;
 use dgi::DgiFault;
@@ -13,7 +14,7 @@ use std::alloc::AllocError;
 use store_data::PlanFault;
 use wire::AskFault;
 
-/// A fault that may be out of memory.
+/// A fault that can be out of memory.
 pub(crate) trait MayBeOutOfMemory {
     fn is_memory(&self) -> bool;
 }
@@ -90,7 +91,7 @@ impl MayBeOutOfMemory for WordsFault {
     }
 }
 
-/// What a call answers, at once or where it comes again after refused memory.
+/// Evaluates a call, and again if it runs out of memory. Returns the last result.
 macro_rules! at_last {
     ($call:expr) => {
         match $call {

@@ -1,5 +1,5 @@
-//! Names, a store of lists that is stocked, and connections to it. What is refused memory comes
-//! again.
+//! Helpers of tests: names, a store of lists with some contents, and connections to it. They repeat
+//! calls that run out of memory.
 ghost use Rattle.std.specs.Prelude.{IfOk};
 ghost use Rattle.wire.specs.Asks.{IsInRange};
 
@@ -13,11 +13,11 @@ use std::test::Fail;
 use store_data::{Name, Product};
 use wire::{AskFault, Asked, FixedReply, Pieces, Reading, read_message, to_ask};
 
-/// The reply where the store failed, or memory was refused.
+/// The response if the store or an allocation fails.
 pub(crate) const UNAVAILABLE: &[u8] =
     b"HTTP/1.1 503 Service Unavailable\r\nContent-Type: application/json\r\nContent-Length: 32\r\nConnection: close\r\n\r\n{\"code\":503,\"refused\":\"storage\"}";
 
-/// The report of a stocked store's batch.
+/// The report of the batch in a store that `stocked` returns.
 pub(crate) const REPORT: &str = "batch B1
 product P1
 state open
@@ -32,13 +32,13 @@ sessions           0
 spoiled            0
 ";
 
-/// The name of these characters.
+/// Converts `text` to a name.
 pub(crate) fn name(text: &str) -> Result<Name, Fail> {
     Ok(Name::new(text.as_bytes()).ok_or("no name")?)
 }
 
-/// A store with product P1, lot L1 of three blanks from 1000, and batch B1 of one record with one
-/// grouping.
+/// Returns a store with the product P1, the lot L1 of three blanks from serial 1000, and the batch
+/// B1 with one record and one grouping.
 pub(crate) fn stocked(alloc: Global) -> Result<ListStore, Fail> {
     let (office, code, lot, batch) = (name("office")?, name("P1")?, name("L1")?, name("B1")?);
     let product = Product {
@@ -69,7 +69,7 @@ pub(crate) fn stocked(alloc: Global) -> Result<ListStore, Fail> {
     Ok(store)
 }
 
-/// Copies of these bytes, one for each connection.
+/// Returns copies of `texts`, one for each connection.
 pub(crate) fn inputs(alloc: Global, texts: &[&[u8]]) -> Result<Vec<Vec<u8>>, AllocError> {
     let mut inputs = Vec::with_capacity(alloc, texts.len())?;
     for text in texts {
@@ -78,7 +78,7 @@ pub(crate) fn inputs(alloc: Global, texts: &[&[u8]]) -> Result<Vec<Vec<u8>>, All
     Ok(inputs)
 }
 
-/// What these bytes ask, which come in pieces of 7.
+/// Parses the request in `bytes`, which are read in pieces of 7 bytes.
 pub(crate) fn asked(alloc: Global, bytes: &[u8]) -> Result<Asked, AskFault>
     ensures { IfOk result IsInRange }
 {
@@ -90,8 +90,8 @@ pub(crate) fn asked(alloc: Global, bytes: &[u8]) -> Result<Asked, AskFault>
     }
 }
 
-/// What becomes of a connection that brings these bytes, and what was written; it comes again where
-/// memory was refused, whether its writer had room for that reply or not.
+/// Serves a connection with the message `bytes`, and returns its end and its writer. The message is
+/// sent again if an allocation fails, even if the writer has no space left to report this.
 pub(crate) fn served(
     alloc: Global,
     store: &mut ListStore,

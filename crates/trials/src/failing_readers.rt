@@ -1,8 +1,8 @@
-//! Readers that fail, and one that counts how often it is asked.
+//! Readers that fail, and a reader that counts its calls.
 use std::io::{self, ErrorKind, Read};
 use wire::{ByteSource, Pieces};
 
-/// Gives one byte at a call, and fails where these end.
+/// A reader that returns one byte per call, and fails after the last byte.
 #[derive(Drop)]
 pub(crate) struct Broken<'a>(pub(crate) &'a [u8]);
 
@@ -20,7 +20,7 @@ impl Read for Broken<'_> {
     }
 }
 
-/// A read that fails behind the first bytes, and would then bring the others.
+/// A source of bytes with a read that fails once. Later reads would return the remaining bytes.
 #[derive(Drop)]
 pub(crate) struct Failing<'a> {
     front: Pieces<'a>,
@@ -29,7 +29,8 @@ pub(crate) struct Failing<'a> {
 }
 
 impl<'a> Failing<'a> {
-    /// These bytes, with a read that fails between them, in pieces of at most so many.
+    /// Creates a source that returns `front`, fails once, and then returns `others`, at most `most`
+    /// bytes per call.
     pub(crate) fn new(front: &'a [u8], others: &'a [u8], most: usize) -> Failing<'a> {
         Failing {
             front: Pieces::new(front, most),
@@ -54,16 +55,16 @@ impl ByteSource for Failing<'_> {
     }
 }
 
-/// Counts how often it is asked.
+/// A source of bytes that counts its calls.
 #[derive(Drop)]
 pub(crate) struct Counted<'a> {
     pieces: Pieces<'a>,
-    /// How often it was asked.
+    /// The number of calls.
     pub(crate) asked: usize,
 }
 
 impl<'a> Counted<'a> {
-    /// These bytes, in pieces of at most so many.
+    /// Creates a source that returns `bytes`, at most `most` bytes per call.
     pub(crate) fn new(bytes: &'a [u8], most: usize) -> Counted<'a> {
         Counted {
             pieces: Pieces::new(bytes, most),

@@ -1,7 +1,7 @@
-//! A writer that fails. It takes no memory, so that it fails only where it is set to.
+//! A writer that fails. It allocates nothing, so it fails only if a test wants it to.
 use std::io::{self, ErrorKind, Write};
 
-/// Takes so many bytes in all, at most 512, and at most so many at a call; then a write fails.
+/// A writer of limited capacity, at most 512 bytes. A write fails when the writer is full.
 #[derive(Clone, Copy)]
 pub(crate) struct Limited {
     bytes: [u8; 512],
@@ -11,7 +11,7 @@ pub(crate) struct Limited {
 }
 
 impl Limited {
-    /// A writer with room for so many bytes, that takes so many at a call.
+    /// Creates a writer that accepts `most` bytes, at most `at_a_call` per call.
     pub(crate) fn new(most: usize, at_a_call: usize) -> Limited {
         Limited {
             bytes: [0; 512],
@@ -21,12 +21,12 @@ impl Limited {
         }
     }
 
-    /// For how many bytes it has room in all.
+    /// Returns the capacity for which the writer was created.
     pub(crate) fn room(&self) -> usize {
         self.most
     }
 
-    /// What it took.
+    /// Returns the bytes that were written.
     pub(crate) fn taken(&self) -> &[u8] {
         self.bytes.get(..self.taken).unwrap_or(&[])
     }

@@ -1,5 +1,5 @@
-//! Feeds over replies in memory: a reader or a writer that fails, and messages that are no replies
-//! to a machine.
+//! Tests of feeds over replies in memory: readers and writers that fail, and messages that aren't
+//! replies to a machine.
 use crate::again::{MayBeOutOfMemory, at_last};
 use crate::exchanges::name;
 use crate::failing_readers::Broken;
@@ -12,7 +12,7 @@ use store_data::Name;
 
 mod events;
 
-/// A reply to a machine: its status, and its JSON with its length.
+/// A response with a reply to a machine: its status, and the length and the text of its JSON.
 macro_rules! reply {
     ($status:literal, $length:literal, $body:literal) => {
         concat!(
@@ -32,7 +32,7 @@ const RELEASED: &str = reply!("200 OK", 37, r#"{"mark":10000000,"result":"releas
 
 const RESET: &str = reply!("200 OK", 30, r#"{"result":"reset","session":0}"#);
 
-/// An opening's first command.
+/// The reply to an `open` request, with the first command.
 pub(crate) const OPENED: &str = reply!(
     "200 OK",
     117,
@@ -47,13 +47,13 @@ const NEXT: &str = reply!(
 
 const GOOD: &str = reply!("200 OK", 29, r#"{"result":"good","session":1}"#);
 
-// The replies to a machine that makes one card of two commands with boot 1.
+// The replies to a machine with boot number 1 that makes one card of two commands.
 const REPLIES: [&str; 5] = [RELEASED, RESET, OPENED, NEXT, GOOD];
 
 const PRINTED: &[u8] =
     b"1000 00A4040006F00000000101 9000\n1000 80E28000050101027000 9000\n1000 good\n";
 
-// Commands for a session and a place that no answer can name.
+// Replies with a session or an index that no `answer` request can have.
 const LEAST_SESSION: &str = reply!(
     "200 OK",
     117,
@@ -84,10 +84,10 @@ const MALFORMED: &str = reply!(
     r#"{"code":400,"refused":"malformed"}"#
 );
 
-// The card's line.
+// An input line with one card.
 const CARD: &[u8] = b"1000\n";
 
-// Gives these replies, one for each ask, and then none.
+// An exchange that returns these replies, one per request, and then none.
 #[derive(Drop)]
 struct Replies<'a> {
     alloc: Global,
@@ -110,8 +110,9 @@ impl Exchange for Replies<'_> {
     }
 }
 
-// How a feed of one card ends to which these replies come, and whose writer has so much room and
-// takes one byte a call; the beginning is written where memory was not refused.
+// Returns the result of feeding one card with these replies. The writer has room for `room` bytes
+// and accepts one byte per call. Unless an allocation fails, exactly the first `room` bytes are
+// written.
 fn feed_of_limited(
     rt: &impl Abort,
     alloc: Global,
@@ -191,7 +192,8 @@ fn a_reply_out_of_range_is_none(rt: HostRuntime) -> Result<(), Fail> {
     Ok(())
 }
 
-// How a feed ends whose reader fails behind these bytes; nothing is asked then.
+// Returns the result of a feed whose reader fails after `front`. No request is sent, and nothing is
+// written.
 fn feed_of_broken(
     rt: &impl Abort,
     alloc: Global,

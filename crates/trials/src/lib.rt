@@ -1,5 +1,5 @@
-//! Tests of what no file of worked examples can say: readers and writers that fail, refused memory,
-//! and the program's words.
+//! Tests that no example file can express: readers and writers that fail, failed allocations, event
+//! lines, and the arguments of the program.
 #![tactic(auto)]
 
 #[cfg(test)]

@@ -1,6 +1,6 @@
-//! Refused memory. Each test is right with ample memory, and says the same whichever one allocation
-//! is refused: the call reports that it is out of memory, leaves all as it was, and answers right
-//! when it comes again.
+//! Tests of failed allocations. Each test succeeds without a failure and if any single allocation
+//! fails: the call then reports that it is out of memory, changes nothing, and returns the right
+//! result when it is repeated.
 mod accounts;
 mod batches;
 mod exchanges;

@@ -1,4 +1,4 @@
-//! A machine whose boot has no numbers left.
+//! Tests of a machine whose boot has no request numbers left.
 use crate::again::{MayBeOutOfMemory, at_last};
 use crate::exchanges::name;
 use feeder::{Act, Feeder, InsertFault};
@@ -8,10 +8,10 @@ use std::process::Abort;
 use std::test::Fail;
 use store_data::{Bytes, Name};
 
-// All numbers of the boot before the first.
+// The release mark of boot 1. The number of its first request is the next one.
 const MARK: u64 = 10_000_000;
 
-// Replies with a first command and a next one.
+// Returns replies with a first and a next command.
 fn commands(alloc: Global, name: Name) -> Result<(Reply, Reply), AllocError> {
     let (first, next) = (Vec::from_slice(alloc, b"A")?, Vec::from_slice(alloc, b"B")?);
     let opened = Reply::Opened {
@@ -29,7 +29,8 @@ fn commands(alloc: Global, name: Name) -> Result<(Reply, Reply), AllocError> {
     Ok((opened, next))
 }
 
-// Cards are put in and refused, one for each place from the third to the last one here.
+// Inserts cards that are refused, one for each request from the third to the one with the place
+// `last`.
 fn refuse_cards(rt: &impl Abort, feeder: &mut Feeder, batch: Name, last: u64) {
     let refused = Reply::Refused {
         refusal: Refusal::BlankUsed,
@@ -41,7 +42,8 @@ fn refuse_cards(rt: &impl Abort, feeder: &mut Feeder, batch: Name, last: u64) {
     }
 }
 
-// A card's words are answered by commands, one for each place up to the last one of the boot.
+// Reports a status word for each request from the one with the place `first` to the last one of the
+// boot. The reply is always a command.
 fn apply_commands(rt: &impl Abort, feeder: &mut Feeder, next: &Reply, first: u64) {
     for place in first..=9_999_999 {
         assert!(rt; matches!(feeder.card(0x9000), Act::Send), "at {place}");
@@ -50,8 +52,8 @@ fn apply_commands(rt: &impl Abort, feeder: &mut Feeder, next: &Reply, first: u64
     }
 }
 
-// A card is put in after 8,000,000 requests, and none after one more. The card that is in then has
-// its commands up to the last number.
+// A card can be inserted after 8,000,000 requests. It gets commands up to the last request number
+// and is then rejected.
 #[test]
 fn the_numbers_of_a_boot_are_used_up(rt: HostRuntime) -> Result<(), Fail> {
     let (machine, batch) = (name("m1")?, name("B1")?);
@@ -71,7 +73,7 @@ fn the_numbers_of_a_boot_are_used_up(rt: HostRuntime) -> Result<(), Fail> {
     Ok(())
 }
 
-// One more request than 8,000,000 leaves the boot no card.
+// No card can be inserted after 8,000,001 requests.
 #[test]
 fn no_card_is_put_in_behind_the_last_place(rt: HostRuntime) -> Result<(), Fail> {
     let (machine, batch) = (name("m1")?, name("B1")?);

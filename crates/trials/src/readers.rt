@@ -1,4 +1,4 @@
-//! Readers that fail, and readers whose reads are counted.
+//! Tests of readers that fail, and of the number of reads.
 ghost use Rattle.store_data.specs.Sequence.{IsProduct};
 
 use crate::again::{MayBeOutOfMemory, at_last};
@@ -17,11 +17,11 @@ use std::test::Fail;
 use store_data::Product;
 use wire::{AskFault, ByteSource, Reading, read_message};
 
-// The first worked message, a product: its head has 66 bytes, its body 63.
+// A `product` request of the worked examples, with a head of 66 bytes and a body of 63 bytes.
 const PRODUCT: &[u8] =
     b"POST /c/office/1 HTTP/1.1\r\nHost: localhost\r\nContent-Length: 63\r\n\r\n{\"do\":\"product\",\"product\":\"P1\",\"max\":255,\"low\":0,\"check\":false}";
 
-// How often a reader is asked for the first message, in pieces of at most so many bytes.
+// Returns the number of reads for `PRODUCT`, which comes in pieces of at most `most` bytes.
 fn asked(alloc: Global, most: usize) -> Result<usize, AskFault> {
     let mut incoming = Counted::new(PRODUCT, most);
     match read_message(alloc, &mut incoming) {
@@ -45,7 +45,7 @@ fn nothing_is_read_behind_a_message(rt: HostRuntime) -> Result<(), Fail> {
     for (most, calls) in table {
         assert_eq!(rt; at_last!(asked(rt.alloc(), most)), Ok(calls), "at {most}");
     }
-    // A head that is refused is read to its end alone.
+    // A refused head is read only to its end.
     let head = b"GET /batch/B9 HTTP/1.1\r\nContent-Length: 16777217\r\n\r\n";
     let mut incoming = Counted::new(head, 1);
     assert!(rt;
@@ -58,7 +58,7 @@ fn nothing_is_read_behind_a_message(rt: HostRuntime) -> Result<(), Fail> {
     Ok(())
 }
 
-// Whether a read that fails behind so many bytes breaks the message.
+// Returns `true` if the message is broken by a read that fails after `size` bytes.
 fn is_broken(alloc: Global, size: usize) -> Result<bool, AskFault> {
     let (front, others) = PRODUCT.split_at_checked(size).unwrap_or((PRODUCT, b""));
     match read_message(alloc, &mut Failing::new(front, others, 5)) {
@@ -79,7 +79,7 @@ fn a_failed_read_is_the_end(rt: HostRuntime) {
     }
 }
 
-// What becomes of a connection whose read fails behind so many bytes.
+// Serves a connection whose read fails after `size` bytes.
 fn served_in_part(alloc: Global, store: &mut ListStore, size: usize) -> (Served, Limited) {
     let (front, others) = PRODUCT.split_at_checked(size).unwrap_or((PRODUCT, b""));
     let mut writer = Limited::new(512, 512);
@@ -92,7 +92,7 @@ fn served_in_part(alloc: Global, store: &mut ListStore, size: usize) -> (Served,
     (served, writer)
 }
 
-// Nothing is written, and neither the product nor a reply is kept.
+// Nothing is written, and neither the product nor a reply is stored.
 #[test]
 fn a_message_whose_read_fails_does_nothing(rt: HostRuntime) -> Result<(), Fail> {
     let (alloc, office, code) = (rt.alloc(), name("office")?, name("P1")?);
@@ -111,7 +111,7 @@ fn a_message_whose_read_fails_does_nothing(rt: HostRuntime) -> Result<(), Fail> 
     Ok(())
 }
 
-// How a plan ends whose reader fails behind these bytes; nothing is written.
+// Returns the result of planning from a reader that fails after `front`. Nothing is written.
 fn plan_of_broken(
     rt: &impl Abort,
     alloc: Global,
@@ -139,7 +139,7 @@ fn a_plan_whose_reader_fails_prints_nothing(rt: HostRuntime) -> Result<(), Fail>
 const SCRIPT: &[u8] =
     b"office 1 {\"do\":\"product\",\"product\":\"P1\",\"max\":255,\"low\":0,\"check\":false}\nimport 2 B1 P1\nrecord,aid,rank,enc,tol,dgi\n.\n";
 
-// How a drill ends whose reader fails behind these bytes; nothing is written.
+// Returns the result of a drill from a reader that fails after `front`. Nothing is written.
 fn drill_of_broken(rt: &impl Abort, alloc: Global, front: &[u8]) -> Result<(), DrillStop> {
     let mut writer = Limited::new(512, 512);
     let end = drill_over_lists(alloc, &mut Broken(front), &mut writer);
@@ -155,7 +155,7 @@ fn a_drill_whose_reader_fails_prints_nothing(rt: HostRuntime) {
     }
 }
 
-// How many bytes come first of an input, whose bytes come in pieces of at most so many.
+// Returns the size of the first piece of an input that comes in pieces of at most `most` bytes.
 fn first_piece(alloc: Global, most: usize) -> Result<usize, NextFault> {
     let inputs = inputs(alloc, &[b"GET /batch/B9"])?;
     let (_, mut connections) = serve_inputs(alloc, inputs, most, 0)?;

@@ -1,4 +1,4 @@
-//! A server over lists: the lines of standard output, and its event lines.
+//! Tests of a server in memory: the lines on its standard output, and its event lines.
 use crate::exchanges::{inputs, stocked};
 use crate::failing_writers::Limited;
 use event_lines::{EventLog, Level};
@@ -18,20 +18,21 @@ use wire::Pieces;
 const PRODUCT: &[u8] =
     b"POST /c/office/1 HTTP/1.1\r\nHost: localhost\r\nContent-Length: 63\r\n\r\n{\"do\":\"product\",\"product\":\"P1\",\"max\":255,\"low\":0,\"check\":false}";
 
-// Another request under its number.
+// A different request under the request number of `PRODUCT`.
 const REUSED: &[u8] = b"POST /c/office/1 HTTP/1.1\r\nContent-Length: 14\r\n\r\n{\"do\":\"reset\"}";
 
 const RESET: &[u8] = b"POST /c/m1/1 HTTP/1.1\r\nContent-Length: 14\r\n\r\n{\"do\":\"reset\"}";
 
-// A number with a leading zero.
+// A request number with a leading zero.
 const MALFORMED: &[u8] = b"POST /c/office/01 HTTP/1.1\r\n\r\n";
 
 const NO_BATCH: &[u8] = b"GET /batch/B9 HTTP/1.1\r\nHost: localhost\r\n\r\n";
 
-// Its head has no end.
+// A head without its end.
 const BROKEN: &[u8] = b"GET /batch/B9 HTTP/1.1\r\nHost: localhost\r\n";
 
-// A product, its repeat, its number again, a bad number, a batch that isn't there, and half a head.
+// A product, its repeat, its request number for a different request, an invalid number, a batch
+// that doesn't exist, and an incomplete head.
 const ALL_KINDS: [&[u8]; 6] = [PRODUCT, PRODUCT, REUSED, MALFORMED, NO_BATCH, BROKEN];
 
 const NEW: Opened<'static> = Opened {
@@ -48,7 +49,7 @@ const FOUND: Opened<'static> = Opened {
 
 const LISTENING: &[u8] = b"listening 127.0.0.1:8807\n";
 
-// How a server ended, and what it wrote.
+// The result of a server, with its lines and event lines.
 #[derive(Drop)]
 struct Ended {
     outcome: Result<(), ServeStop>,
@@ -64,7 +65,8 @@ impl Ended {
     }
 }
 
-// A server that ends so, at once or where it runs again after refused memory.
+// Runs a server and checks its result. If the result isn't the expected one, an allocation may have
+// failed, so the server runs once more.
 macro_rules! assert_ends {
     ($rt:expr; $run:expr, $outcome:expr, $lines:expr, $events:expr) => {
         let outcome: Result<(), ServeStop> = $outcome;
@@ -79,7 +81,7 @@ macro_rules! assert_ends {
     };
 }
 
-// Serves so many of these connections over a store.
+// Serves `turns` of these connections over `store`.
 fn served_over<S: ServerStore + Drop>(
     alloc: Global,
     store: S,
@@ -108,12 +110,12 @@ fn served_over<S: ServerStore + Drop>(
     })
 }
 
-// A server of six connections of all kinds, over lists.
+// Serves the six connections `ALL_KINDS` over lists.
 fn all_kinds(alloc: Global, level: Level) -> Result<Ended, AllocError> {
     served_over(alloc, ListStore::new(alloc), NEW, &ALL_KINDS, 6, level)
 }
 
-// A server of as many connections as these, over a device with a plan.
+// Serves these connections, at most six, over a store whose device has a planned fault.
 fn planned(
     alloc: Global,
     fault: Fault,
@@ -126,7 +128,7 @@ fn planned(
     served_over(alloc, store, opened, texts, turns, Level::Usual)
 }
 
-// Usually an accepted request has no line, and where they are off there is none at all.
+// At level `Usual` an accepted request has no line. At level `Off` there are no lines.
 #[test]
 fn connections_have_lines_by_the_level(rt: HostRuntime) -> Result<(), Fail> {
     let all = b"made db=\"shop.db\"
@@ -180,20 +182,21 @@ fn each_refusal_has_its_code_and_its_name(rt: HostRuntime) -> Result<(), Fail> {
     Ok(())
 }
 
-// The bytes before CR LF are shown, escaped, only if they have the form of a request line.
+// The bytes before the first CR LF are shown, with escapes, only if they have the form of a request
+// line.
 #[test]
 fn only_a_request_line_is_shown(rt: HostRuntime) -> Result<(), Fail> {
     let texts: [&[u8]; 10] = [
         b"GET /batch/B1?x=\"\\ HTTP/1.1\r\n\r\n",
         b"!#$%&'*+-.^_`|~9aZ / HTTP/9.0\r\n",
-        // A line that LF alone ends, and one that hasn't ended.
+        // A line that ends with only LF, and a line without an end.
         b"GET /batch/B9 HTTP/1.1\nHost: x\r\n\r\n",
         b"GET /batch/B9 HTTP/1.1",
-        // A byte of a target that isn't visible, two spaces, and no version.
+        // An invisible byte in the target, two spaces, and a missing version.
         b"GET /\x80\x1b[2J HTTP/1.1\r\n\r\n",
         b"GET  /batch/B9 HTTP/1.1\r\n\r\n",
         b"GET /batch/B9\r\n\r\n",
-        // A batch's row with a PAN, and a status word, without a head.
+        // A row of a batch file with a PAN, and a status word, both without a head.
         b"R1,A0000000031010,1,0,0,0101185A0847617390010100105F24",
         b"{\"do\":\"answer\",\"session\":1,\"index\":0,\"sw\":\"6A80\"}\r\n\r\n",
         b"",
@@ -226,7 +229,7 @@ closed connections=10
     Ok(())
 }
 
-// The first 256 bytes are looked at: a request line has its end among them, or isn't shown.
+// Only the first 256 bytes are examined, so a longer request line isn't shown.
 #[test]
 fn a_long_request_line_is_not_shown(rt: HostRuntime) -> Result<(), Fail> {
     let mut longest = [b'a'; 256];
@@ -255,7 +258,7 @@ fn a_long_request_line_is_not_shown(rt: HostRuntime) -> Result<(), Fail> {
     Ok(())
 }
 
-// A store that was there: its counts stand in the first line, as far as they can be read.
+// The first event line of an existing store has its counts, except those that can't be read.
 #[test]
 fn a_store_that_was_there_is_counted(rt: HostRuntime) -> Result<(), Fail> {
     let lines = b"listening 127.0.0.1:8807\nserved 0\n";
@@ -273,8 +276,8 @@ closed connections=0
     Ok(())
 }
 
-// Each 503 has the fault of the store. `recovered` comes before the line of the first connection at
-// which it works again.
+// Each 503 has the fault of the store. `recovered` is written before the line of the first
+// connection for which the store works again.
 #[test]
 fn a_store_that_is_full_and_recovers(rt: HostRuntime) -> Result<(), Fail> {
     let events = b"made db=\"shop.db\"
@@ -291,7 +294,8 @@ closed connections=4
     Ok(())
 }
 
-// A device that failed stays shut, and the store can't be closed: the last line isn't written.
+// After a failure of the device the store is shut and can't be closed, so the last line isn't
+// written.
 #[test]
 fn a_store_that_fails_is_not_closed(rt: HostRuntime) -> Result<(), Fail> {
     let events = b"made db=\"shop.db\"
@@ -314,7 +318,7 @@ unclosed fault=device
     Ok(())
 }
 
-// Where there is no next connection the store is closed too.
+// The store is closed even if there is no next connection.
 #[test]
 fn connections_that_are_used_up(rt: HostRuntime) -> Result<(), Fail> {
     let events = b"made db=\"shop.db\"
@@ -329,7 +333,7 @@ closed connections=1
     Ok(())
 }
 
-// Connections that bring these bytes, and whose replies are taken up to so many bytes.
+// Connections with these messages. The first `room` bytes of each response are accepted.
 #[derive(Drop)]
 struct Cut<'a> {
     texts: &'a [&'a [u8]],
@@ -359,11 +363,11 @@ impl<'a> Connections for Cut<'a> {
     }
 
     fn back(&mut self, _incoming: Pieces<'a>, _writer: Limited, _served: Served) {
-        // Nothing is kept of a connection that was served.
+        // A connection isn't kept after it is served.
     }
 }
 
-// Serves these, whose replies are taken up to so many bytes, over lists.
+// Serves these messages over lists. The first `room` bytes of each response are accepted.
 fn serve_cut<W: Write, E: Write + Drop>(
     alloc: Global,
     texts: &[&[u8]],
@@ -390,7 +394,8 @@ fn serve_cut<W: Write, E: Write + Drop>(
     )
 }
 
-// Serves these, and keeps the server's lines and its event lines, each of which can be written.
+// Serves these messages, and returns the lines and event lines of the server, all of which can be
+// written.
 fn cut_at(alloc: Global, texts: &[&[u8]], room: usize) -> Result<Ended, AllocError> {
     let mut lines = Vec::new(alloc);
     let mut events = EventLog::new(Level::Usual, Vec::new(alloc));
@@ -414,7 +419,7 @@ closed connections=2
     Ok(())
 }
 
-// A reply that could not be written has its status, whatever was taken of it.
+// If a response can't be written, its line has the status, no matter how much was written.
 #[test]
 fn a_reply_that_is_not_taken_is_unsent(rt: HostRuntime) -> Result<(), Fail> {
     for room in [0, 1, 11, 12, 100] {
@@ -423,7 +428,8 @@ fn a_reply_that_is_not_taken_is_unsent(rt: HostRuntime) -> Result<(), Fail> {
     Ok(())
 }
 
-// What these writers take of a product, up to so many bytes.
+// Serves a `product` request. The writer of lines has room for `room` bytes, and the writer of
+// event lines for `event_room` bytes.
 fn cut_lines(alloc: Global, room: usize, event_room: usize) -> Result<Ended, AllocError> {
     let mut writer = Limited::new(room, 3);
     let mut events = EventLog::new(Level::All, Limited::new(event_room, 3));
@@ -447,7 +453,7 @@ fn check_event_room(rt: &impl Abort, alloc: Global, room: usize) -> Result<(), F
     Ok(())
 }
 
-// Takes what another does, and can be flushed so often.
+// A writer that can be flushed `flushes` times.
 #[derive(Drop)]
 struct Flushing {
     inner: Limited,
@@ -470,7 +476,7 @@ impl Write for Flushing {
     }
 }
 
-// What a server of a product writes that can flush its lines so often.
+// Serves a `product` request with a writer that can be flushed `flushes` times.
 fn flushed_lines(alloc: Global, flushes: u32) -> Result<Ended, AllocError> {
     let inner = Limited::new(512, 512);
     let mut writer = Flushing { inner, flushes };
@@ -483,7 +489,7 @@ fn flushed_lines(alloc: Global, flushes: u32) -> Result<Ended, AllocError> {
     })
 }
 
-// Each of the two lines is flushed as it is written, and a flush that fails is a failed write.
+// Each of the two lines is flushed after it is written. A failed flush is a failed write.
 #[test]
 fn a_line_that_is_not_flushed_ends_the_server(rt: HostRuntime) -> Result<(), Fail> {
     let stop = Err(ServeStop::Write);
@@ -495,7 +501,7 @@ fn a_line_that_is_not_flushed_ends_the_server(rt: HostRuntime) -> Result<(), Fai
     Ok(())
 }
 
-// What can't be written of event lines stops nothing.
+// Event lines that can't be written stop nothing.
 #[test]
 fn event_lines_that_fail_stop_nothing(rt: HostRuntime) -> Result<(), Fail> {
     for room in [0, 10, 60, 512] {
@@ -504,7 +510,8 @@ fn event_lines_that_fail_stop_nothing(rt: HostRuntime) -> Result<(), Fail> {
     Ok(())
 }
 
-// A last line that can't be written whole comes after the close. A first one that can't ends all.
+// If the last line can't be written completely, the store is already closed. If the first line
+// can't, no connection is served.
 #[test]
 fn a_line_that_fails_ends_the_server(rt: HostRuntime) -> Result<(), Fail> {
     let stop = Err(ServeStop::Write);

@@ -1,4 +1,5 @@
-//! Connections that are used up, how connections end, and a drill's last line.
+//! Tests of connections that are used up, of the end of connections, and of the last line of a
+//! drill.
 use crate::again::{MayBeOutOfMemory, at_last};
 use crate::exchanges::served;
 use crate::failing_writers::Limited;
@@ -11,7 +12,7 @@ use std::test::Fail;
 
 const RESET: &[u8] = b"POST /c/m1/1 HTTP/1.1\r\nContent-Length: 14\r\n\r\n{\"do\":\"reset\"}";
 
-// A server whose connections in memory are used up ends with a fault of the device.
+// A server whose connections in memory are used up returns a fault of the device.
 #[test]
 fn the_end_of_connections_is_reported(rt: HostRuntime) {
     let none = at_last!(serve_inputs(rt.alloc(), Vec::new(rt.alloc()), 1, 1));
@@ -39,7 +40,7 @@ fn connections_end_as_reported(rt: HostRuntime) {
         let writer = Limited::new(room, 512);
         let (mut found, mut writer_after) = served(rt.alloc(), &mut store, bytes, writer);
         if found.decided != decided {
-            // Memory was refused, and the writer had no room to report it.
+            // An allocation failed, and the writer had no space left to report it.
             (found, writer_after) = served(rt.alloc(), &mut store, bytes, writer);
         }
         assert_eq!(rt; found, Served { end, decided }, "at {bytes:?}");
@@ -47,7 +48,8 @@ fn connections_end_as_reported(rt: HostRuntime) {
     }
 }
 
-// What is printed for a script, and how its drill ends; nothing where memory was refused.
+// Returns the output of a script, or the reason why its drill stopped. A first reply of 503 counts
+// as out of memory.
 fn printed(alloc: Global, script: &str) -> Result<Limited, DrillStop> {
     let mut writer = Limited::new(512, 512);
     drill_over_lists(alloc, &mut Cursor::new(script.as_bytes()), &mut writer)?;

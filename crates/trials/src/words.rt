@@ -1,9 +1,9 @@
-//! Tests of the program's arguments.
+//! Tests of the arguments of the program.
 use arguments::{Words, WordsFault, read_words};
 use std::alloc::{AllocError, Global};
 use std::process::Abort;
 
-// The words of a line, which begins with the program's name.
+// Returns the words of a command line, which starts with the name of the program.
 fn words_of(alloc: Global, line: &str) -> Result<Vec<&str>, AllocError> {
     let mut words = Vec::new(alloc);
     for word in line.split(' ') {
@@ -12,7 +12,7 @@ fn words_of(alloc: Global, line: &str) -> Result<Vec<&str>, AllocError> {
     Ok(words)
 }
 
-// What is read of these words, at once or where they come again after refused memory.
+// Parses the arguments, and again if an allocation fails.
 fn words_at_last(alloc: Global, words: &[&str]) -> Result<Words, WordsFault> {
     match read_words(alloc, words) {
         Err(WordsFault::Memory) => read_words(alloc, words),
@@ -20,7 +20,7 @@ fn words_at_last(alloc: Global, words: &[&str]) -> Result<Words, WordsFault> {
     }
 }
 
-/// What is read of the words of a line, at once or after refused memory.
+/// Parses the arguments of a command line. Repeats a call that runs out of memory.
 pub(crate) fn read_at_last(alloc: Global, line: &str) -> Result<Words, WordsFault> {
     let words = match words_of(alloc, line) {
         Err(_) => words_of(alloc, line)?,
@@ -91,7 +91,7 @@ fn what_is_no_name_is_a_bad_name(rt: HostRuntime) {
     }
 }
 
-// These words are wrong, and the text that says so has this part.
+// Checks that the arguments are wrong, and that the error text contains `part`.
 fn check_usage(rt: &impl Abort, line: &str, read: Result<Words, WordsFault>, part: &str) {
     match read {
         Err(WordsFault::Usage(text)) => {
@@ -167,7 +167,7 @@ fn a_usage_fault_says_what_is_missing_or_out_of_range(rt: HostRuntime) {
     }
 }
 
-// These words ask for help, whose text has these parts.
+// Checks that the arguments request help, and that its text contains `parts`.
 fn check_help(rt: &impl Abort, line: &str, read: Result<Words, WordsFault>, parts: &[&str]) {
     match read {
         Err(WordsFault::Help(text)) => {

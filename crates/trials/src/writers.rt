@@ -1,4 +1,4 @@
-//! Writers that fail at each byte, and that take one byte a call.
+//! Tests of writers that fail at each byte, and of writers that accept one byte per call.
 ghost use Rattle.store_data.specs.Sequence.{IsProduct};
 
 use crate::again::{MayBeOutOfMemory, at_last};
@@ -20,7 +20,7 @@ use text_io::{WriteFailed, write_text};
 
 const TEXT: &[u8] = b"record R1\n";
 
-// How the text's writing ends where a writer has room for so many of its bytes.
+// Returns the result of writing `TEXT` to a writer with room for `room` bytes.
 fn end_in(room: usize) -> Result<(), WriteFailed> {
     if room < TEXT.len() {
         Err(WriteFailed)
@@ -38,7 +38,7 @@ fn a_text_has_its_beginning_where_a_writer_fails(rt: HostRuntime) {
             assert_eq!(rt; end, end_in(room), "at {room}");
             assert_eq!(rt; writer.taken(), &TEXT[..room]);
         }
-        // A slice that is full takes none, and doesn't fail.
+        // A full slice accepts 0 bytes and returns no error.
         let mut taken = [0; 10];
         let mut writer = &mut taken[..room];
         let end = write_text(&mut writer, TEXT);
@@ -47,8 +47,8 @@ fn a_text_has_its_beginning_where_a_writer_fails(rt: HostRuntime) {
     }
 }
 
-// How a plan ends whose writer has so much room, and takes one byte a call; the beginning is
-// written where memory was not refused.
+// Returns the result of planning with a writer that has room for `room` bytes and accepts one byte
+// per call. The first `room` bytes are written, or nothing if an allocation fails.
 fn plan_of_limited(
     rt: &impl Abort,
     alloc: Global,
@@ -84,7 +84,8 @@ fn a_plan_has_its_beginning_where_a_writer_fails(rt: HostRuntime) -> Result<(), 
     Ok(())
 }
 
-// How a report ends whose writer has so much room, and takes so many bytes a call.
+// Returns the result of a report to a writer that has room for `room` bytes and accepts `at_a_call`
+// bytes per call. The first `room` bytes are written.
 fn report_of_limited(
     rt: &impl Abort,
     alloc: Global,
@@ -115,7 +116,7 @@ fn a_report_has_its_beginning_where_a_writer_fails(rt: HostRuntime) -> Result<()
         let end = report_of_limited(&rt, alloc, &mut store, REPORT.len(), at_a_call)?;
         assert_eq!(rt; end, Ok(()));
     }
-    // A slice that is full takes none.
+    // A full slice accepts 0 bytes.
     let mut room = [0; 100];
     let mut writer = room.as_mut_slice();
     let end = at_last!(close_report(alloc, &mut store, &name("B1")?, &mut writer));
@@ -141,8 +142,8 @@ const ONE_CHARGED: &str = reply!(
     r#"{"charged":1,"discarded":0,"free":2,"good":0,"lots":1,"product":"P1","running":1,"spoiled":0,"total":3}"#
 );
 
-// A message's reply is written up to the room of its writer, and whole where the message comes
-// again.
+// Checks that a response is written up to the capacity of its writer, and completely when the
+// message is repeated.
 fn check_sent_again(
     rt: &impl Abort,
     alloc: Global,
@@ -179,7 +180,7 @@ fn a_failed_reply_is_sent_again(rt: HostRuntime) {
     check_sent_again(&rt, alloc, &mut store, PRODUCT, CREATED, writer);
 }
 
-// The card's first command is handed out again, and one blank is charged.
+// The repeat gets the first command of the card again, and only one blank is charged.
 #[test]
 fn a_failed_reply_charges_one_blank(rt: HostRuntime) -> Result<(), Fail> {
     let (alloc, opened) = (rt.alloc(), OPENED.as_bytes());
@@ -193,13 +194,13 @@ fn a_failed_reply_charges_one_blank(rt: HostRuntime) -> Result<(), Fail> {
     Ok(())
 }
 
-// Two replies, and a line that is none of a script.
+// Two lines with replies, and a line with a machine that doesn't exist.
 const SCRIPT: &[u8] = b"office 1 {\"do\":\"reset\"}\nget /batch/B9\nsend m1\n";
 
 const LINES: &str =
     "200 {\"result\":\"reset\",\"session\":0}\n409 {\"code\":56,\"refused\":\"batch-unknown\"}\n";
 
-// The lines where memory was refused to one of the two replies.
+// The output if an allocation for one of the two replies fails.
 const FIRST_REFUSED: &[u8] =
     b"503 {\"code\":503,\"refused\":\"storage\"}\n409 {\"code\":56,\"refused\":\"batch-unknown\"}\n";
 
@@ -211,8 +212,8 @@ fn is_unavailable(taken: &[u8]) -> bool {
     is_refused && !LINES.as_bytes().starts_with(taken)
 }
 
-// How a drill ends whose writer has so much room, and takes one byte a call; the beginning is
-// written where memory was not refused.
+// Returns the result of a drill with a writer that has room for `room` bytes and accepts one byte
+// per call. Unless an allocation fails, exactly the first `room` bytes are written.
 fn drill_of_limited(rt: &impl Abort, alloc: Global, room: usize) -> Result<(), DrillStop> {
     let mut writer = Limited::new(room, 1);
     let end = drill_over_lists(alloc, &mut Cursor::new(SCRIPT), &mut writer);

@@ -1,4 +1,4 @@
--- One more frame of a WAL, and which WALs have lost nothing.
+-- The scan after one more frame, and WALs without lost commits.
 use Rattle.std.proofs.Common.{◌≡◌, ℕ, zero, suc, ◌+◌, ◌==◌, ◌≤◌, ◌&&◌, not, Bool, true, false, if◌then◌else◌, List, length, refl, sym, ap, ◌∙◌, arith}
 use Rattle.std.proofs.lemmas.Bool.{cond-true, cond-false, and_from, and_left, and_right, not_from_true, not_from_false, false≢true}
 use Rattle.sqlite_wal.specs.Format.{count_page, page_number}
@@ -37,13 +37,13 @@ at_most_one : (b : Bool) → (if b then 1 else 0) ≤ 1
 at_most_one true = omega arith
 at_most_one false = omega arith
 
--- a frame begins one lost commit at most
+-- A frame starts at most one lost commit.
 pub lost_more : (walk : Walk) (frame : List ℕ) → (advanced walk frame).lost ≤ walk.lost + 1
 lost_more walk frame =
     let valid = is_valid walk.is_big walk.salts walk.sum frame in
     omega (arith, at_most_one (not walk.is_whole && walk.commits && valid && (page_number frame == count_page)))
 
--- ---- which WALs have lost nothing
+-- ---- WALs without lost commits
 
 frames_none : (page_size : ℕ) (log : List ℕ) → length log ≤ 32 → frames_in page_size log ≡ 0
 frames_none page_size log short = omega arith
@@ -70,7 +70,7 @@ pub look_at_unsized : (db log : List ℕ) → is_page_size (page_size_of db (hea
 look_at_unsized db log unsized =
     without_frames db log (and_right (not (is_cleared (header log))) (is_page_size (page_size_of db (header log))) unsized)
 
--- ---- a WAL whose frames are looked at
+-- ---- a WAL whose frames are examined
 
 with_frames : (db log : List ℕ) → has_frames db log ≡ true → let size = page_size_of db (header log) in look_at db log ≡ look_to size log (frames_in size log)
 unfolding look_at
@@ -82,7 +82,7 @@ look_at_frames db log size is uncleared sized =
     with_frames db log (and_from (not (is_cleared (header log))) (is_page_size (page_size_of db (header log))) (not_from_false _ uncleared) allowed)
     ∙ sym (ap (λ (n : ℕ). look_to n log (frames_in n log)) is)
 
--- ---- tests
+-- ---- conditions
 
 pub and_with : (a b r : Bool) → a ≡ true → r ≡ b → r ≡ (a && b)
 and_with true b r is same = same

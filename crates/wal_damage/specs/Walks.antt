@@ -1,4 +1,4 @@
--- What is kept of the frames that were read.
+-- The state of the scan after the frames that were read.
 use Rattle.std.specs.Prelude.{ℕ, ◌+◌, ◌==◌, ◌&&◌, ◌||◌, not, false, if◌then◌else◌, List, slice_index}
 use Rattle.sqlite_wal.specs.Format.{count_page, commit_size, is_big, page_number, stored_sum}
 use Rattle.sqlite_wal.specs.Recovery.{frame, header, sum_before}
@@ -6,7 +6,7 @@ use Rattle.wal_damage.specs.Damage.{is_header, is_valid, is_whole_to, commits_be
 use Rattle.wal_damage.specs.declared.look.Look.{Look}
 use Rattle.wal_damage.specs.declared.walk.Walk.{Walk}
 
--- before the first frame, under this header
+-- the state before the first frame, with the header `head`
 abbrev pub begun : List ℕ → Walk
 begun head = record {
   has_header = is_header head;
@@ -22,7 +22,7 @@ begun head = record {
   is_shut = false;
 }
 
--- after one more frame
+-- the state after one more frame
 abbrev pub advanced : Walk → List ℕ → Walk
 advanced walk frame =
     let valid = is_valid walk.is_big walk.salts walk.sum frame in
@@ -41,7 +41,7 @@ advanced walk frame =
       is_shut = if walk.is_whole && not valid then slice_index frame 8 == 0 else walk.is_shut;
     }
 
--- after the first i frames of a WAL
+-- the state after the first `i` frames of a WAL
 abbrev pub walk_to : ℕ → List ℕ → ℕ → Walk
 walk_to page_size log i = record {
   has_header = is_header (header log);
@@ -57,6 +57,6 @@ walk_to page_size log i = record {
   is_shut = is_shut_to page_size log i;
 }
 
--- what the frames that were read show
+-- the result for the frames that were read
 abbrev pub shown : Walk → Look
 shown walk = record { lost = walk.lost; is_suspect = walk.goes_on && not walk.has_count && not walk.is_shut }

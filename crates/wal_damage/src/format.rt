@@ -1,14 +1,14 @@
-//! The bytes of a WAL's header and frames.
+//! Reads the header and the frames of a WAL.
 ghost use Rattle.std.specs.Prelude.{◌≡◌, ◌+◌, ◌≤◌, length};
 ghost use Rattle.sqlite_wal.specs.Format.{be32, stored_sum};
 ghost use Rattle.wal_damage.specs.Damage.{is_header, is_magic, is_valid, salts_at, same_pair};
 
 use sqlite_wal::checksum_of;
 
-/// The length of the WAL's header.
+/// The length of the header of a WAL.
 pub(crate) const HEADER_LEN: usize = 32;
 
-/// The length of a frame before its page.
+/// The length of a frame without its page.
 pub(crate) const FRAME_HEADER_LEN: usize = 24;
 
 /// The page number of a count frame.
@@ -23,7 +23,7 @@ const MAGIC_BIG: u32 = 0x377f_0683;
 /// Two salts, or the two words of a checksum.
 pub(crate) type Pair = (u32, u32);
 
-// Returns the four bytes at `at` as a number, the highest first.
+// Returns the four bytes at offset `at` as a number, highest byte first.
 pub(crate) fn be32_at(bytes: &[u8], at: usize) -> u32
     requires { at + 4 ≤ length bytes.now }
     ensures { result ≡ be32 bytes.now at }
@@ -34,7 +34,7 @@ pub(crate) fn be32_at(bytes: &[u8], at: usize) -> u32
         + bytes[at + 3] as u32
 }
 
-// Returns the two words at `at`.
+// Returns the two words at offset `at`.
 pub(crate) fn pair_at(bytes: &[u8], at: usize) -> Pair
     requires { at + 8 ≤ length bytes.now }
     ensures sum { result ≡ stored_sum bytes.now at }
@@ -49,14 +49,14 @@ fn same(a: Pair, b: Pair) -> bool
     a.0 == b.0 && a.1 == b.1
 }
 
-// Checks for the magic number of a WAL.
+// Returns `true` if `word` is the magic number of a WAL.
 fn is_magic(word: u32) -> bool
     ensures { result ≡ is_magic word }
 {
     word == MAGIC_LITTLE || word == MAGIC_BIG
 }
 
-// Checks the magic number and the checksum of a header.
+// Returns `true` if the header has the magic number and the right checksum.
 pub(crate) fn is_header(head: &[u8; 32]) -> bool
     ensures { result ≡ is_header head.now }
 {
@@ -66,7 +66,8 @@ pub(crate) fn is_header(head: &[u8; 32]) -> bool
     has_magic && has_sum
 }
 
-// Checks the salts, the page number and the checksum of a frame.
+// Returns `true` if the frame has the salts `salts`, a page number and the right checksum, which
+// continues `before`.
 pub(crate) fn is_valid(is_big: bool, salts: Pair, before: Pair, frame: &[u8]) -> bool
     requires { 24 ≤ length frame.now }
     ensures { result ≡ is_valid is_big salts before frame.now }

@@ -1,4 +1,5 @@
-//! Damage of a write-ahead log that recovery doesn't report: commits after the first bad frame.
+//! Finds damage of a write-ahead log that recovery doesn't report: commits after the first invalid
+//! frame.
 #![tactic(auto)]
 
 mod format;

@@ -1,4 +1,4 @@
-//! The look at the two files of a database, before SQLite opens them.
+//! Examines the WAL of a database before SQLite opens the two files.
 ghost use Rattle.std.specs.Prelude.{◌≡◌, ◌+◌, ◌*◌, ◌-◌, ◌/◌, ◌<◌, ◌≤◌, ◌^◌, length, IfOk, OnOk, IsTrue};
 ghost use Rattle.sqlite_wal.specs.PageSize.{size_in_file};
 ghost use Rattle.sqlite_wal.specs.Reads.{AreClean, IsClean, OnlyReads};
@@ -11,7 +11,7 @@ use sqlite_disk::{Disk, Files};
 use std::alloc::{AllocError, Global};
 use std::io::{self, ErrorKind};
 
-/// Why a WAL couldn't be looked at.
+/// The reason why a WAL couldn't be examined.
 #[derive(Clone, Copy, Debug, PartialEq, Eq)]
 pub enum LookFault {
     /// A read failed.
@@ -36,28 +36,36 @@ impl From<AllocError> for LookFault {
     }
 }
 
-/// What a WAL shows.
+/// The result of examining a WAL.
 #[derive(Clone, Copy, Debug, PartialEq, Eq)]
 pub struct Look {
-    /// How many durable commits recovery doesn't reach because something before them is damaged.
+    /// The number of durable commits that recovery doesn't reach because something before them is
+    /// damaged.
     pub lost: u64,
-    /// Whether commits of another program go on behind a break. This is no proof of damage.
+    /// `true` if commits of another program continue after a break. This doesn't prove damage.
     pub is_suspect: bool,
 }
 
+// The result if no frame is examined.
 const NOTHING: Look = Look {
     lost: 0,
     is_suspect: false,
 };
 
-/// Looks for commits of a WAL that recovery doesn't reach. It reads the WAL once, from the beginning to
-/// the end, and allocates memory for one frame.
+/// Counts the durable commits of a WAL that recovery doesn't reach, and finds suspect commits of
+/// another program (SQLite's database file format, section 4, "The Write-Ahead Log"). Reads the WAL
+/// once, from start to end, allocates memory for one frame, and writes nothing.
 ///
-/// The files are two that were just opened, before SQLite recovers the WAL or writes to it. Nothing
-/// is written.
+/// Call it with two files that were just opened, before SQLite recovers the WAL or writes to it.
+///
+/// No contract says that a crash never leaves a WAL with lost commits: the contracts of the Rattle
+/// toolchain on crashes describe the pages that the two files represent, and not the bytes after
+/// the last commit.
 ///
 /// # Errors
-/// Returns an error if a read or an allocation fails.
+///
+/// - `Failed` if a read fails.
+/// - `Memory` if an allocation fails.
 pub fn look_at<D: Disk>(alloc: Global, files: &mut Files<D>) -> Result<Look, LookFault>
     requires log_usable { IsTrue (D.Disk.is_usable files.old.log) }
     requires db_usable { IsTrue (D.Disk.is_usable files.old.db) }
@@ -81,7 +89,7 @@ pub fn look_at<D: Disk>(alloc: Global, files: &mut Files<D>) -> Result<Look, Loo
     Ok(look_in(&mut files.log, &head, page_size, frames, &mut frame)?)
 }
 
-// Checks for a header that an interrupted checkpoint cleared.
+// Returns `true` if an interrupted checkpoint cleared the header.
 fn is_cleared(head: &[u8; 32]) -> bool
     ensures { result ≡ is_cleared head.now }
 {
@@ -96,7 +104,8 @@ fn is_page_size(size: usize) -> bool
     512 <= size && size <= 65536
 }
 
-// Returns the page size that the WAL's header names, or the database file if the header is damaged.
+// Returns the page size that the header of the WAL names, or that the database file names if this
+// header is damaged.
 fn page_size_of<D: Disk>(head: &[u8; 32], db: &mut D) -> io::Result<usize>
     requires { IsTrue (D.Disk.is_usable db.old) }
     ensures size { IfOk result (λ n. IsClean D.Disk db.new
@@ -124,7 +133,7 @@ fn size_in<D: Disk>(db: &mut D) -> io::Result<usize>
     Ok(if named == 1 { 65536 } else { named })
 }
 
-// Looks at the first `frames` frames.
+// Examines the first `frames` frames. `buf` has room for one frame.
 fn look_in<D: Disk>(
     log: &mut D,
     head: &[u8; 32],
@@ -149,7 +158,7 @@ fn look_in<D: Disk>(
     Ok(shown(walk))
 }
 
-// Reads frame `i`.
+// Reads frame `i` into `buf`.
 fn read_frame<D: Disk>(log: &mut D, page_size: usize, i: usize, buf: &mut [u8]) -> io::Result<()>
     requires usable { IsTrue (D.Disk.is_usable log.old) }
     requires buf { length buf.old ≡ 24 + page_size }

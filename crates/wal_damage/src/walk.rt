@@ -1,38 +1,38 @@
-//! What is kept of the frames that were read.
+//! Scans the frames of a WAL.
 ghost use Rattle.std.specs.Prelude.{◌≡◌, ◌+◌, ◌<◌, ◌≤◌, ◌^◌, length};
 ghost use Rattle.wal_damage.specs.Walks.{advanced, begun, shown};
 
 use crate::format::{COUNT_PAGE, Pair, be32_at, is_header, is_valid, pair_at};
 use crate::look::Look;
 
-/// What is kept of the header and the frames that were read.
+/// The state of the scan after the header and some frames.
 #[derive(Clone, Copy)]
 pub(crate) struct Walk {
-    /// The header is valid.
+    /// `true` if the header is valid.
     pub(crate) has_header: bool,
-    /// The checksums read words with the highest byte first.
+    /// `true` if the checksums read words with the highest byte first.
     pub(crate) is_big: bool,
-    /// The salts that the next frame has to have.
+    /// The salts that the next frame must have.
     pub(crate) salts: Pair,
-    /// The checksum that the next frame goes on from.
+    /// The checksum that the next frame continues.
     pub(crate) sum: Pair,
-    /// The last frame commits.
+    /// `true` if the last frame commits.
     pub(crate) commits: bool,
-    /// The header and all frames are valid.
+    /// `true` if the header and all frames are valid.
     pub(crate) is_whole: bool,
-    /// How many counted commits began behind a break.
+    /// The number of counted commits that started after a break.
     pub(crate) lost: u64,
-    /// The last frame is valid, lies behind a break and commits.
+    /// `true` if the last frame is valid, after a break, and commits.
     pub(crate) commits_behind: bool,
-    /// A valid frame went on from such a frame.
+    /// `true` if a valid frame continued such a frame.
     pub(crate) goes_on: bool,
-    /// A frame has the page number of a count frame.
+    /// `true` if a frame has the page number of a count frame.
     pub(crate) has_count: bool,
-    /// The first break is at a frame whose first salt byte is 0.
+    /// `true` if the first salt byte of the frame at the break is 0.
     pub(crate) is_shut: bool,
 }
 
-// Begins a walk under a header.
+// Returns the state before the first frame, with the header `head`.
 pub(crate) fn begin(head: &[u8; 32]) -> Walk
     ensures { result ≡ begun head.now }
 {
@@ -52,7 +52,7 @@ pub(crate) fn begin(head: &[u8; 32]) -> Walk
     }
 }
 
-// Takes one more frame.
+// Returns the state after one more frame.
 pub(crate) fn advance(walk: Walk, frame: &[u8]) -> Walk
     requires frame { 24 ≤ length frame.now }
     requires room { walk.lost + 1 < 2 ^ 64 }
@@ -87,7 +87,7 @@ pub(crate) fn advance(walk: Walk, frame: &[u8]) -> Walk
     }
 }
 
-// Returns what the frames that were read show.
+// Returns the result for the frames that were read.
 pub(crate) fn shown(walk: Walk) -> Look
     ensures { result ≡ shown walk }
 {

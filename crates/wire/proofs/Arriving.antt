@@ -1,4 +1,4 @@
--- A call that is sent arrives as what it is.
+-- Proves that a call that is sent arrives unchanged.
 use Rattle.std.proofs.Common.{◌≡◌, ◌∙◌, ℕ, List, [], Some, Result, Ok, Err, IfOk, sym, subst}
 use Rattle.std.specs.Prelude.{IsUtf8, Option}
 use Rattle.job_facts.specs.declared.request.Call.{Call}
@@ -30,7 +30,7 @@ file_arrives text client number r b p raw body is same means =
     subst (λ (q : Call). Arrives text client number q) (sym is)
     (subst (λ (x : List ℕ). Means text (posted_with client number (import_tail b p) x (Some (Job (request.Import b p x))))) same means)
 
--- ---- whole messages
+-- ---- messages
 
 pub json_message : {E : Type 0} (result : Result (List ℕ) E) (client : List ℕ) (number : ℕ) (r : Call) (body : List ℕ) → AreNames r → IsSendable r → IsNoImport r → IsUtf8 body → body ≡ body_of r
     → IfOk result (λ text. text ≡ post_with client number [] body) → IfOk result (λ text. Means text (posted_with client number [] body (call_in body)))

@@ -1,4 +1,4 @@
--- Replies, read back from their own texts.
+-- Proves that the text of a reply is parsed as this reply.
 use Rattle.std.proofs.Common.{◌≡◌, ◌<◌, ◌≤◌, ◌+◌, ◌-◌, ◌^◌, ℕ, zero, suc, Bool, true, false, not, List, [], ◌∷◌, ◌++◌, length, drop, get_or, Some, inl, inr, refl, sym, ap, ◌∙◌, arith, append-nil, length-append, lt-ltb, decimal, append_assoc}
 use Rattle.std.specs.Prelude.{◌==◌, ◌≢◌, slice_index, bytes_eq, nat_lt, option_map, option_and_then, Option, IsTrue, IsUtf8}
 use Rattle.std.specs.List.{list_all}
@@ -53,7 +53,7 @@ use Rattle.http_messages.specs.Texts.{head_text, status_text}
 
 -- ---- JSON
 
--- ---- where a body begins
+-- ---- the start of a body
 
 brace_is_there : (bytes head body : List ℕ) → bytes ≡ head ++ body → slice_index body 0 ≡ 123 → slice_index bytes (length head) ≡ 123
 brace_is_there bytes head body is first =
@@ -74,7 +74,7 @@ body_starts bytes head body i before there is none first =
           ]
     ]
 
--- ---- whether bytes are a text, by its head and what follows it
+-- ---- comparing bytes with a text, first its head and then its body
 
 pub same_text : (bytes front rest head body : List ℕ) (same : Bool) → front ≡ head → bytes ≡ front ++ rest → same ≡ bytes_eq rest body
     → (IsTrue same → bytes ≡ head ++ body) × (bytes ≡ head ++ body → IsTrue same)
@@ -126,7 +126,7 @@ unfolding body_of
 body_begins (Product p made) = refl
 body_begins _ = refl
 
--- ---- the body is read as the reply's value
+-- ---- the body is parsed as the value of the reply
 
 whole : Option (json.Json × List Token) → Option Data
 whole read = option_and_then of_json (option_and_then (λ p. json.if_last p.0 p.1) read)
@@ -300,13 +300,13 @@ body_is_low (Faulty fault) h =
 pub body_is_utf8 : (r : Reply) → IsReply r → IsUtf8 (body_of r)
 body_is_utf8 r h = IsUtf8-from_ascii (body_of r) (ascii_from_low (body_of r) (body_is_low r h))
 
--- ---- the body is read
+-- ---- the body is parsed
 
 pub body_is_read : (r : Reply) → IsReply r → read (body_of r) ≡ Some (value_of r)
 unfolding body_of
 body_is_read r h = value_is_read r h
 
--- ---- what is found of the bytes of a reply
+-- ---- the result for the bytes of a reply
 
 pub value_is_found : (bytes body : List ℕ) (found : Option Data) (r : Reply) → IsReply r → bytes ≡ reply_bytes r → length bytes < 2 ^ 64
     → ((head rest : List ℕ) → bytes ≡ head ++ rest → HasNoBrace head → slice_index rest 0 ≡ 123 → body ≡ rest) → found ≡ value_in body → found ≡ Some (value_of r)
@@ -316,20 +316,20 @@ value_is_found bytes body found r ranged is few cuts reads =
     let cut : body ≡ body_of r = cuts head (body_of r) is (head_has_no_brace r (length (body_of r)) (omega arith)) (body_begins r) in
     reads ∙ ap value_in cut ∙ value_in-read (body_of r) (value_of r) (body_is_utf8 r ranged) (body_is_read r ranged)
 
--- the value in an option that is one
+-- the value in an option is unique
 pub same_value : (v w : Data) → Some v ≡ Some w → v ≡ w
 same_value v w is = cc
 
 pub same_reply : (q r : Reply) → Some q ≡ Some r → q ≡ r
 same_reply q r is = cc
 
--- what is no reply's text is not this one's
+-- bytes that aren't the text of the candidate `q` aren't the text of a reply `r` equal to it
 pub other_reply : (bytes : List ℕ) (q r : Reply) (same : Bool) → Some q ≡ Some r → same ≡ false → (bytes ≡ reply_bytes q → IsTrue same) → bytes ≡ reply_bytes r → ⊥
 other_reply bytes q r same is differs holds text =
     let is_same : IsTrue same = holds (text ∙ ap reply_bytes (sym (same_reply q r is))) in
     let both : false ≡ true = sym differs ∙ is_same in cc
 
--- no two replies have one text
+-- two different replies never have the same text
 pub distinct_replies : AreDistinctReplies
 distinct_replies q r here there same =
     let read_both : Some (value_of q) ≡ Some (value_of r) = sym (body_is_read q here) ∙ ap (λ (t : HttpReply). read t.body) same ∙ body_is_read r there in

@@ -1,4 +1,4 @@
--- The text of a request's JSON value.
+-- Lemmas about the text of a request's JSON value.
 use Rattle.std.proofs.Common.{◌≡◌, ◌<◌, ◌/◌, ◌%◌, ℕ, zero, suc, false, List, [], ◌∷◌, refl, sym, ap, ◌∙◌, arith}
 use Rattle.serde_json.specs.Written.{compact_text, has_float}
 use Rattle.hex.specs.Hex.{IsBytes}

@@ -1,4 +1,4 @@
--- The body of a request that is sent is read as that request.
+-- Proves that the body of a request that is sent is parsed as this request.
 use Rattle.std.proofs.Common.{◌≡◌, ◌<◌, ◌≤◌, ◌+◌, ◌-◌, ◌*◌, ◌^◌, ◌/◌, ◌%◌, ◌==◌, ℕ, zero, suc, Bool, true, false, cond, List, length, Some, None, inl, inr, refl, sym, ap, ◌∙◌, arith, length-append, append_assoc}
 use Rattle.std.specs.Prelude.{◌&&◌, nat_le, slice_index, option_map, option_and_then, IsUtf8, IsTrue}
 use Rattle.std.specs.Char.{digit_value, is_ascii_hexdigit}
@@ -27,9 +27,9 @@ use Rattle.wire.specs.Sending.{AreNames, IsNoImport, IsSendable, body_of, value_
 use Rattle.wire.proofs.ParseLemmas.{read_whole}
 use Rattle.wire.proofs.SendLemmas.{text_is_body, word_is_plain}
 
--- ---- words
+-- ---- status words
 
--- the first n digits are read back
+-- the first `n` digits are parsed as their values
 are_read : ℕ → Bool
 are_read zero = true
 are_read (suc n) = (is_ascii_hexdigit (slice_index upper_digits n) && (digit_value (slice_index upper_digits n) == n)) && are_read n
@@ -73,7 +73,7 @@ word_value sw h =
 word_is_read : (sw : ℕ) → sw < 65536 → option_map (digits_value 16) (passing is_word (word_text sw)) ≡ Some sw
 word_is_read sw h = ap (λ (t : Bool). option_map (digits_value 16) (cond t (Some (word_text sw)) None)) (word_is_word sw h) ∙ ap (λ (n : ℕ). Some n) (word_value sw h)
 
--- ---- the value is the request's
+-- ---- the value is parsed as the request
 
 pub number_kept : (least most n : ℕ) → least ≤ n → n ≤ most → passing (is_within least most) n ≡ Some n
 number_kept least most n low high =
@@ -105,7 +105,7 @@ call_is_found (Job (request.Withdraw b r)) h s other = λ i. option_map Job (wit
 call_is_found (Job (request.Close b)) h s other = ap (λ o. option_map Job (option_map (λ batch. request.Close batch) o)) (name_kept b h)
 call_is_found (Release upto) h s other = ap (option_map Release) (number_kept 1 (10 ^ 18 - 1) upto s.0 (omega (arith, s.1)))
 
--- ---- the body is the value's text
+-- ---- the body is the text of the value
 
 value_is_read : (r : Call) → IsSendable r → IsNoImport r → read (compact_text (value_of r)) ≡ Some (value_of r)
 value_is_read (Job (request.Product p)) s other =

@@ -1,4 +1,4 @@
--- What the parts of a reply's reading find: steps on the way, which no definition above cites.
+-- Defines the results of the steps that parse a response. No crate above uses these definitions.
 use Rattle.std.specs.Prelude.{◌≢◌, ◌^◌, ℕ, List, codes, bytes_eq, nat_lt, slice_index, if◌then◌else◌, Option, Some, None, option_map, option_and_then, Result, Ok, Err}
 use Rattle.hex.specs.Hex.{decode_of}
 use Rattle.hex.specs.declared.error.FromHexError.{FromHexError}
@@ -14,7 +14,7 @@ use Rattle.job_facts.specs.declared.reply.Reply.TheVariants.{Product, Lot, Impor
 use Rattle.std.specs.Option.{option_or}
 use Rattle.http_requests.specs.Members.{passing, name_at, number_at, text_at}
 
--- ---- where a body begins
+-- ---- the start of a body
 
 abbrev pub HasNoBrace : List ℕ → Type 0
 HasNoBrace xs = (k : ℕ) → slice_index xs k ≢ 123
@@ -28,11 +28,11 @@ abbrev pub decoded : Result (List ℕ) FromHexError → Option (List ℕ)
 decoded (Ok bytes) = Some bytes
 decoded (Err why) = None
 
--- a text in hexadecimal, as bytes
+-- the bytes whose hexadecimal text is in the member `key`
 abbrev pub bytes_at : List ℕ → Data → Option (List ℕ)
 bytes_at key d = option_and_then (λ (text : List ℕ). decoded (decode_of text)) (text_at key d)
 
--- ---- the reply that a body may be of, by its members; its text decides
+-- ---- the only reply that may have a body, from its members; its text decides
 
 abbrev pub import_in : Made → Data → Option Reply
 import_in made d =
@@ -52,7 +52,7 @@ opened_in b command d =
 abbrev pub next_in : List ℕ → Data → Option Reply
 next_in command d = option_and_then (λ (k : ℕ). option_map (λ (s : ℕ). Next command k s) (number_at (codes "session") d)) (number_at (codes "index") d)
 
--- with the card's batch, where it is opened
+-- an opened session if the body has a batch, otherwise the next command
 abbrev pub command_by : Option (List ℕ) → List ℕ → Data → Option Reply
 command_by (Some b) command d = opened_in b command d
 command_by None command d = next_in command d
@@ -89,7 +89,7 @@ accepted_in d word =
 abbrev pub faulty_in : Option FaultKind → ℕ → Option Reply
 faulty_in k row = option_map (λ (kind : FaultKind). Faulty (record { row = row; kind = kind })) k
 
--- with the session, the mark or the row that is given beside
+-- a refusal, with the session, the release mark or the row that the body has in addition
 abbrev pub refused_by : ℕ → Option ℕ → Option ℕ → Option ℕ → Option Reply
 refused_by code (Some s) mark row = Some (Busy s)
 refused_by code None (Some mark) row = Some (NumberReleased mark)

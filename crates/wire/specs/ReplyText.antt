@@ -1,4 +1,4 @@
--- Replies as text, as far as they can be read back (this project's profile).
+-- Defines the texts of replies that can be parsed (this project's profile).
 use Rattle.std.specs.Prelude.{◌≡◌, ◌<◌, ◌^◌, ℕ, List, ⊤}
 use Rattle.hex.specs.Hex.{IsBytes}
 use Rattle.job_facts.specs.Sound.{IsName}
@@ -8,11 +8,11 @@ use Rattle.arrivals.specs.HttpReplies.{body_of, http_reply_of, status_of}
 use Rattle.http_messages.specs.declared.reply.Content.TheVariants.{Json}
 use Rattle.http_messages.specs.Texts.{reply_text}
 
--- all of a reply, from the status line to the end of its body
+-- the whole text of a reply, from the status line to the end of its body
 abbrev pub reply_bytes : Reply → List ℕ
 reply_bytes r = reply_text (status_of r) Json (body_of r)
 
--- its names are names, its bytes are bytes, and its numbers fit their types
+-- the names of the reply are valid, its bytes are bytes, and its numbers fit their types
 abbrev pub IsReply : Reply → Type 0
 IsReply (Product p made) = IsName p
 IsReply (Lot l made) = IsName l
@@ -32,6 +32,6 @@ IsReply (Released mark) = mark < 2 ^ 64
 IsReply (NumberReleased mark) = mark < 2 ^ 64
 IsReply (Faulty fault) = fault.row < 2 ^ 32
 
--- no two replies have one text
+-- two different replies never have the same text
 abbrev pub AreDistinctReplies : Type 0
 AreDistinctReplies = (q r : Reply) → IsReply q → IsReply r → http_reply_of q ≡ http_reply_of r → q ≡ r

@@ -1,5 +1,5 @@
--- The texts of requests: HTTP/1.1 (RFC 9112), with the lines of this project's profile, and compact
--- JSON (RFC 8259) with the members in order of their names.
+-- Defines the messages of requests: HTTP/1.1 (RFC 9112) with the header lines of this project's
+-- profile, and compact JSON (RFC 8259) with the members sorted by name.
 use Rattle.std.specs.Prelude.{◌≡◌, ◌≤◌, ◌<◌, ◌^◌, ◌/◌, ◌%◌, ℕ, List, [], ◌∷◌, length, codes, ⊤}
 use Rattle.hex.specs.Hex.{encode_upper}
 use Rattle.serde_json.specs.Data.{Data, boolean, null, string, object, member, no_members}
@@ -16,9 +16,10 @@ use Rattle.http_requests.specs.Meant.{Asks, Means}
 use Rattle.http_requests.specs.Posts.{post_with}
 use Rattle.text_io.specs.Inputs.{most_input}
 
--- ---- what callers owe
+-- ---- preconditions
 
--- serials, sessions and numbers have at most 18 digits, and a file is no longer than a body
+-- serials, session numbers and request numbers have at most 18 digits, and a batch file isn't
+-- larger than a body may be
 abbrev pub IsSendable : Call → Type 0
 IsSendable (Job (request.Product p)) = IsRequest (request.Product p)
 IsSendable (Job (request.Lot l)) = IsRequest (request.Lot l)
@@ -35,17 +36,17 @@ IsSendable (Release upto) = (1 ≤ upto) × (upto < 10 ^ 18)
 
 -- ---- bodies
 
--- four digits in upper case
+-- a status word as four hexadecimal digits in upper case
 abbrev pub word_text : ℕ → List ℕ
 word_text sw = encode_upper (sw / 256 ∷ sw % 256 ∷ [])
 
 -- ---- the JSON of a call
 
--- a word, and the names that it is for
+-- a request with this `do`, for a batch and a record
 abbrev pub record_request : List ℕ → List ℕ → List ℕ → Data
 record_request b word r = object (member (codes "batch") (string b) (member (codes "do") (string word) (member (codes "record") (string r) no_members)))
 
--- an import has none
+-- the JSON value of a call; an import has no JSON, so its value is null
 abbrev pub value_of : Call → Data
 value_of (Job (request.Product p)) =
     object (member (codes "check") (boolean p.check) (member (codes "do") (string (codes "product")) (member (codes "low") (num p.low)
@@ -65,12 +66,12 @@ value_of (Job (request.Withdraw b r)) = record_request b (codes "withdraw") r
 value_of (Job (request.Close b)) = object (member (codes "batch") (string b) (member (codes "do") (string (codes "close")) no_members))
 value_of (Release upto) = object (member (codes "do") (string (codes "release")) (member (codes "upto") (num upto) no_members))
 
--- compact JSON (RFC 8259); an import's body is its file
+-- the body of a call: compact JSON (RFC 8259), or the batch file of an import
 unfoldable pub body_of : Call → List ℕ
 body_of (Job (request.Import b p raw)) = raw
 body_of call = compact_text (value_of call)
 
--- ---- whole texts
+-- ---- messages
 
 abbrev pub tail_of : Call → List ℕ
 tail_of (Job (request.Import b p raw)) = import_tail b p
@@ -86,15 +87,15 @@ tail_of (Job (request.Withdraw b r)) = []
 tail_of (Job (request.Close b)) = []
 tail_of (Release upto) = []
 
--- the message that asks for a call
+-- the message of a call
 abbrev pub sending_of : List ℕ → ℕ → Call → List ℕ
 sending_of client number r = post_with client number (tail_of r) (body_of r)
 
--- what a repeat of it has to have alike
+-- the request bytes of a call
 abbrev pub ask_of : Call → List ℕ
 ask_of r = ask_with (tail_of r) (body_of r)
 
--- its names are names
+-- the names in the call are valid
 abbrev pub AreNames : Call → Type 0
 AreNames (Job (request.Product p)) = IsName p.code
 AreNames (Job (request.Lot l)) = IsName l.name × IsName l.product
@@ -109,18 +110,19 @@ AreNames (Job (request.Withdraw b r)) = IsName b × IsName r
 AreNames (Job (request.Close b)) = IsName b
 AreNames (Release upto) = ⊤
 
--- ---- what becomes of a text
+-- ---- the meaning of a message
 
--- it means this call of a client under its number, and nothing else
+-- the only meaning of `text` is the call `r` of the client `client` under the request number
+-- `number`
 abbrev pub Arrives : List ℕ → List ℕ → ℕ → Call → Type 0
 Arrives text client number r = Means text (Asks (asked.Arrival (record { client = client; number = number; ask = ask_of r; request = r })))
 
--- ---- steps on the way
+-- ---- helper definitions
 
--- a call that is JSON
+-- the call is JSON
 abbrev pub IsNoImport : Call → Type 0
 IsNoImport r = (b p raw : List ℕ) → r ≡ Job (request.Import b p raw) → ⊥
 
--- its text, which means it
+-- `text` is the message of the call `r` and means this call
 abbrev pub IsMessageOf : List ℕ → ℕ → Call → List ℕ → Type 0
 IsMessageOf client number r text = (text ≡ sending_of client number r) × Arrives text client number r

@@ -1,5 +1,5 @@
-//! Messages over HTTP/1.1 (RFC 9112), both ways: what the bytes of a connection ask, the text of a
-//! request, and a reply read back.
+//! Makes the HTTP/1.1 messages (RFC 9112) of requests, and parses responses. The crate also exports
+//! the functions that read requests and write the heads of responses.
 #![tactic(auto)]
 
 ghost use Rattle.wire.specs.ReplyText.{AreDistinctReplies};
@@ -15,7 +15,7 @@ pub use http_requests::{AskFault, Asked, Wanted, to_ask};
 pub use parse::parse_reply;
 pub use sending::request_text;
 
-/// No two replies have one text: a law. It does nothing.
+/// Lemma: two different replies never have the same text.
 pub fn replies_are_distinct()
     ensures { AreDistinctReplies }
 {}

@@ -1,4 +1,4 @@
-//! Replies, read back from their bytes.
+//! Parses the responses of the server.
 ghost use Rattle.std.specs.Prelude.{◌≡◌, ◌≢◌, ◌<◌, ◌≤◌, ◌^◌, ◌↔◌, ◌++◌, ℕ, List, length};
 ghost use Rattle.std.specs.Prelude.{slice_index, Some, IfOk, IfSome, IsTrue};
 ghost use Rattle.hex.specs.Hex.{IsBytes};
@@ -21,8 +21,12 @@ use serde_json::Value;
 use std::alloc::{AllocError, Global};
 use store_data::{Bytes, Name};
 
-/// The reply to a call that these bytes are, status line to body, or `None` where they are no such
-/// reply. It fails only where memory is refused.
+/// Parses a response, from its status line to the end of its body. Returns `None` unless `bytes`
+/// are exactly the text of a reply to a call.
+///
+/// # Errors
+///
+/// Returns `AllocError` if an allocation fails.
 pub fn parse_reply(alloc: Global, bytes: &[u8]) -> Result<Option<Reply>, AllocError>
     ensures is { IfOk result
         (λ found. IfSome found (λ r. IsReply r × (bytes.now ≡ reply_bytes r))) }
@@ -42,7 +46,7 @@ pub fn parse_reply(alloc: Global, bytes: &[u8]) -> Result<Option<Reply>, AllocEr
     }
 }
 
-// From the first brace on: a head has none, and a body begins with one.
+// Returns the body, which begins with the first brace. A head has no brace.
 fn body_in(bytes: &[u8]) -> &[u8]
     ensures few { length bytes.now < 2 ^ 64 }
     ensures body { (head body : List ℕ) → bytes.now ≡ head ++ body → HasNoBrace head
@@ -51,7 +55,7 @@ fn body_in(bytes: &[u8]) -> &[u8]
     &bytes[first_brace(bytes)..]
 }
 
-// Its index, or the length where there is none.
+// Returns the index of the first brace, or the length if there is no brace.
 fn first_brace(bytes: &[u8]) -> usize
     ensures few { length bytes.now < 2 ^ 64 }
     ensures within { result ≤ length bytes.now }
@@ -66,7 +70,7 @@ fn first_brace(bytes: &[u8]) -> usize
     bytes.len()
 }
 
-// Whether these bytes are the whole text of a reply.
+// Returns `true` if `bytes` are the whole text of `reply`.
 fn is_text_of(alloc: Global, bytes: &[u8], reply: &Reply) -> Result<bool, AllocError>
     ensures { IfOk result (λ same. IsTrue same ↔ (bytes.now ≡ reply_bytes reply.now)) }
 {
@@ -80,7 +84,8 @@ fn is_text_of(alloc: Global, bytes: &[u8], reply: &Reply) -> Result<bool, AllocE
     }
 }
 
-// The reply that a body may be of, by its members: its text decides.
+// Returns the only reply that may have this body, from its members. Comparing its text with the
+// response decides whether it is the reply.
 fn reply_in(alloc: Global, value: &Value) -> Result<Option<Reply>, AllocError>
     ensures value { IfOk result (λ found. found ≡ reply_in (view value.now)) }
     ensures ranged { IfOk result (λ found. IfSome found IsReply) }
@@ -250,7 +255,7 @@ fn count_at(value: &Value, key: &str) -> Option<u32>
     u32::try_from(number).ok()
 }
 
-// A text in hexadecimal, as bytes.
+// Returns the bytes whose hexadecimal text is in the member `key`.
 fn bytes_at(alloc: Global, value: &Value, key: &str) -> Result<Option<Bytes>, AllocError>
     ensures value { IfOk result (λ found. found ≡ bytes_at key.now (view value.now)) }
     ensures ranged { IfOk result (λ found. IfSome found IsBytes) }

@@ -1,5 +1,5 @@
-//! The texts of calls, as a machine's feeder sends them: a head, and compact JSON (RFC 8259) or a
-//! batch file.
+//! Makes the messages that a machine's feeder sends: a head, and compact JSON (RFC 8259) or a batch
+//! file.
 ghost use Rattle.std.specs.Prelude.{◌≡◌, ◌≤◌, ◌<◌, ◌^◌, IfOk, OnOk, string_bytes};
 ghost use Rattle.serde_json.specs.View.{view};
 ghost use Rattle.job_facts.specs.Sound.{IsName};
@@ -15,8 +15,12 @@ use serde_json::{Value, json};
 use std::alloc::{AllocError, Global};
 use store_data::{Bytes, Name, Product, laws};
 
-/// The message that asks for a call under a client's number, head and body. The number is 1 to
-/// 999,999,999,999,999,999. It fails only where memory is refused.
+/// Returns the message, head and body, with which `client` sends `call` under the request number
+/// `number`, 1 to 999,999,999,999,999,999.
+///
+/// # Errors
+///
+/// Returns `AllocError` if an allocation fails.
 pub fn request_text(
     alloc: Global,
     client: &Name,
@@ -38,7 +42,7 @@ pub fn request_text(
     }
 }
 
-// A request of the plain machine: a batch file, or JSON.
+// Makes the message of a request of the reference model, which is a batch file or JSON.
 fn job_message(
     alloc: Global,
     client: &Name,
@@ -63,7 +67,7 @@ fn job_message(
     }
 }
 
-// What a JSON value asks for.
+// Makes the message of a request with the JSON value `value`.
 fn json_message(
     alloc: Global,
     client: &Name,
@@ -85,7 +89,7 @@ fn release_value(alloc: Global, upto: u64) -> Result<Value, AllocError>
     json!(in alloc; {"do": "release", "upto": upto})
 }
 
-// The JSON of a request; an import has none.
+// Returns the JSON value of a request. An import has no JSON, so its value is null.
 fn job_value(alloc: Global, request: &Request) -> Result<Value, AllocError>
     ensures value { IfOk result (λ v. view v ≡ value_of (Call.Job request.now)) }
     ensures names { OnOk result (AreNames (Call.Job request.now)) }
@@ -149,7 +153,7 @@ fn answer_value(alloc: Global, session: u64, index: u32, sw: u16) -> Result<Valu
     })
 }
 
-// Four hexadecimal digits in upper case.
+// Returns `sw` as four hexadecimal digits in upper case.
 fn word_text(alloc: Global, sw: u16) -> Result<String, AllocError>
     ensures { IfOk result (λ text. string_bytes text ≡ word_text sw) }
 {
@@ -170,7 +174,7 @@ fn close_value(alloc: Global, batch: &Name) -> Result<Value, AllocError>
     json!(in alloc; {"batch": text(batch), "do": "close"})
 }
 
-// A name as JSON has it.
+// Returns a name as it appears in JSON.
 fn text(name: &Name) -> &str
     ensures text { result.now ≡ name.now }
     ensures name { IsName name.now }

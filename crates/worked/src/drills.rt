@@ -1,11 +1,11 @@
-//! Scripts of drills, and what is printed.
+//! Checks the output of drills.
 use drill::{DrillStop, drill_over_lists};
 use over_tables::drill_engine;
 use std::alloc::{AllocError, Global};
 use worked_exchanges::Scripted;
 use worked_files::{Case, CaseFault, Line, check_bytes};
 
-/// A script prints what it must, over tables.
+/// Checks that a script has its expected output with a store over tables.
 pub fn check_script(alloc: Global, case: &Case) -> Result<(), CaseFault> {
     let mut script = String::new(alloc);
     let mut wanted = String::new(alloc);
@@ -35,7 +35,7 @@ pub fn check_script(alloc: Global, case: &Case) -> Result<(), CaseFault> {
     )
 }
 
-/// A drill over lists prints the status and the body of each reply.
+/// Checks that a drill with a list store prints the status and the body of each response.
 pub fn check_scripted(alloc: Global, scripted: &Scripted) -> Result<(), CaseFault> {
     let mut input = scripted.script.as_bytes();
     let mut printed = Vec::new(alloc);

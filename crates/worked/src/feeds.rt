@@ -1,4 +1,4 @@
-//! Feeds: cards, and what is printed of them.
+//! Checks the output of feeds.
 use feeding::{Exchange, FeedStop, feed_engine};
 use list_store::ListStore;
 use server::{MemoryReader, serve_one};
@@ -6,7 +6,7 @@ use std::alloc::{AllocError, Global};
 use store_data::Name;
 use worked_files::{Case, CaseFault, Line, check_bytes, post};
 
-/// What comes before a feed for `set-up`.
+/// The requests before a feed for `set-up`.
 const SET_UP: [&str; 3] = [
     "office/1 {\"do\":\"product\",\"product\":\"P1\",\"max\":255,\"low\":0,\"check\":false}",
     "office/2 {\"do\":\"lot\",\"lot\":\"L1\",\"product\":\"P1\",\"first\":1000,\"count\":9}",
@@ -14,21 +14,21 @@ const SET_UP: [&str; 3] = [
      R2,F00000000101,1,0,0,0101027000\\nR3,F00000000101,1,0,1,8000020102\\n",
 ];
 
-/// What becomes of an ask.
+/// The fate of a request on the network.
 #[derive(Clone, Copy, PartialEq, Eq)]
 enum Fate {
-    /// It doesn't arrive.
+    /// The request doesn't arrive.
     Gone,
-    /// It arrives, and its reply is lost.
+    /// The request arrives, and its response is lost.
     Lost,
-    /// It arrives twice, and the second reply comes.
+    /// The request arrives twice, and the second response comes back.
     Twice,
-    /// Its reply comes but for the last byte.
+    /// The response comes back without its last byte.
     Short,
 }
 
-/// A server in memory, how many asks came to it, what becomes of some, counted from 1, and what
-/// arrives before some.
+/// A server in memory: the number of requests so far, the fates of some of them, counted from 1,
+/// and the messages that arrive before some of them.
 #[derive(Drop)]
 struct Server {
     alloc: Global,
@@ -53,7 +53,7 @@ impl Server {
         served(self.alloc, &mut self.store, message)
     }
 
-    // What becomes of the ask that comes now.
+    // Returns the fate of the present request.
     fn fate(&self) -> Option<Fate> {
         for (ask, fate) in &self.fates {
             if *ask == self.asked {
@@ -63,7 +63,7 @@ impl Server {
         None
     }
 
-    // Serves what arrives before it.
+    // Serves the messages that arrive before the present request.
     fn serve_before(&mut self) -> Result<(), AllocError> {
         for (ask, message) in &self.before {
             if *ask == self.asked {
@@ -74,7 +74,7 @@ impl Server {
     }
 }
 
-// The reply to a message.
+// Returns the response to a message.
 fn served(alloc: Global, store: &mut ListStore, message: &[u8]) -> Result<Vec<u8>, AllocError> {
     let mut reply = Vec::new(alloc);
     let mut incoming = MemoryReader::new(message.to_vec(alloc)?, usize::MAX);
@@ -107,7 +107,7 @@ impl Exchange for Server {
     }
 }
 
-/// A feed of machine `m1` with batch `B1` prints what it must.
+/// Checks that a feed of machine `m1` with batch `B1` has its expected output.
 pub fn check_feed(alloc: Global, case: &Case) -> Result<(), CaseFault> {
     let mut server = Server::new(alloc);
     let mut boot = 1;
@@ -135,7 +135,7 @@ pub fn check_feed(alloc: Global, case: &Case) -> Result<(), CaseFault> {
     )
 }
 
-// Whether a line is no card: then it says what comes before the feed, or what becomes of an ask.
+// Returns `true` if a line isn't a card but an event before the feed or the fate of a request.
 fn comes_before(alloc: Global, server: &mut Server, line: &Line) -> Result<bool, CaseFault> {
     let text = line.text.as_str();
     if text == "set-up" {
@@ -168,7 +168,7 @@ fn comes_before(alloc: Global, server: &mut Server, line: &Line) -> Result<bool,
     Ok(true)
 }
 
-// Puts a message before an ask: its number, a space, and the message.
+// Adds a message before a request: the number of the request, a space, and the message.
 fn put_before(
     alloc: Global,
     server: &mut Server,
@@ -191,8 +191,8 @@ fn number_in(line: &Line, text: &str) -> Result<u64, CaseFault> {
     }
 }
 
-// A message: what stands behind `/c/` in its target, a space, and its body, in which `\n` ends a
-// line.
+// Returns a message, which is given as the part of its target after `/c/`, a space, and its body,
+// in which `\n` represents LF.
 fn message_of(alloc: Global, line: &Line, request: &str) -> Result<Vec<u8>, CaseFault> {
     let Some((tail, body)) = request.split_once(' ') else {
         return Err(CaseFault::Form { line: line.number });
@@ -202,7 +202,7 @@ fn message_of(alloc: Global, line: &Line, request: &str) -> Result<Vec<u8>, Case
     Ok(post(alloc, target.as_str(), body.as_bytes())?)
 }
 
-// What is printed, and then why it ended.
+// Returns the output of a feed, and then the reason why it ended.
 fn fed(
     alloc: Global,
     server: &mut Server,

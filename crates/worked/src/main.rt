@@ -1,5 +1,5 @@
-//! The program `worked`: runs files of worked examples through every public way, as docs/WORKED.md
-//! has them.
+//! The program `worked`: runs files of worked examples through every public function
+//! (docs/WORKED.md).
 #![tactic(auto)]
 
 mod drills;
@@ -18,7 +18,7 @@ use worked_files::{Case, CaseFault, Repeats, Table, cases, check_plan, check_tab
 const USAGE: &str =
     "usage: worked FILE.. (.plan, .exchange, .message, .drill, .feed, .grouping, .record, .word)";
 
-/// What the cases of a file are.
+/// The kind of cases in a file.
 #[derive(Clone, Copy)]
 enum Kind {
     Plan,
@@ -37,8 +37,7 @@ fn main(rt: HostRuntime) -> ExitCode {
     }
 }
 
-// Runs the files that the words of the process name. Answers whether each case is what its file
-// says.
+// Runs the files that the arguments name. Returns `true` if every case passes.
 fn run(rt: &HostRuntime) -> io::Result<bool> {
     let words = env::args(rt)?.collect::<Vec<String>>(rt.alloc())?;
     let mut is_right = true;
@@ -63,7 +62,7 @@ fn run_file(rt: &HostRuntime, name: &str) -> io::Result<bool> {
     }
 }
 
-// By the end of a file's name.
+// Returns the kind of cases by the ending of the file name.
 fn kind_of(name: &str) -> Option<Kind> {
     let (_, end) = name.rsplit_once('.')?;
     match end {
@@ -86,7 +85,7 @@ fn repeats_of(kind: Kind) -> Repeats {
     }
 }
 
-// Prints each case that fails, and how many there are.
+// Prints each case that fails, and the number of cases.
 fn run_cases(rt: &HostRuntime, name: &str, kind: Kind, cases: Vec<Case>) -> io::Result<bool> {
     let count = cases.len();
     let mut failed = 0usize;

@@ -1,4 +1,4 @@
-//! The kinds of stores that the cases are gone over.
+//! The kinds of stores that run the cases.
 use faulty_store::FaultyStore;
 use list_store::ListStore;
 use schema::SqlStore;
@@ -7,7 +7,7 @@ use std::alloc::Global;
 use worked_exchanges::StoreKind;
 use worked_files::CaseFault;
 
-/// Plain lists.
+/// A list store.
 pub struct Lists;
 
 impl StoreKind for Lists {
@@ -22,7 +22,7 @@ impl StoreKind for Lists {
     }
 }
 
-/// Lists behind a device for which no fault is planned.
+/// A list store with a device on which no fault is planned.
 pub struct ListsBehindDevice;
 
 impl StoreKind for ListsBehindDevice {
@@ -37,7 +37,7 @@ impl StoreKind for ListsBehindDevice {
     }
 }
 
-/// The tables of a database in memory.
+/// A store over the tables of a database in memory.
 pub struct Tables;
 
 impl StoreKind for Tables {

@@ -1,4 +1,4 @@
-//! Asks and their replies.
+//! Checks requests and their responses.
 use crate::typed::{check_handled, check_parsed, check_run, written_anew};
 use crate::ways::{
     Exchange, ONE_BY_ONE, StoreKind, WHOLE, are_few, check_same, check_wanted, check_way,
@@ -9,29 +9,29 @@ use std::alloc::{AllocError, Global};
 use wire::reply_parts;
 use worked_files::{Case, CaseFault, Line, Repeats, cases, get, post, wanted_of};
 
-/// The asks of a case, as they are read.
+/// The requests of a case, as they are read.
 #[derive(Drop)]
 struct Asks {
     exchanges: Vec<Exchange>,
     /// The batch file that is being read.
     file: Option<File>,
-    /// How the asks are spelt matters to the replies.
+    /// `true` if the responses depend on how the requests are written.
     is_spelling: bool,
 }
 
-/// A script that asks of a drill what a case asks.
+/// A script of a drill with the requests of a case.
 #[derive(Drop)]
 pub struct Scripted {
-    /// The line of the file at which the case begins.
+    /// The line of the file with the title of the case.
     pub line: u64,
     pub script: String,
-    /// The status and the body of each reply, a line for each.
+    /// The status and the body of each response, one line each.
     pub printed: Vec<u8>,
 }
 
-/// Runs a case on every way over a store of each of two kinds, and where it has few asks, of a
-/// third kind; each way has a store of its own. The same comes on all. Gives what a drill is to
-/// print, if all asks are the office's.
+/// Runs a case in every way with the stores `K` and `L`, and if it has few requests also with `M`.
+/// Every run has its own store, and all must have the same output. Returns the script and the
+/// output of a drill if all requests are the office's.
 pub fn check_exchanges<K: StoreKind, L: StoreKind, M: StoreKind>(
     alloc: Global,
     case: Case,
@@ -74,7 +74,7 @@ fn check_ways<K: StoreKind>(
     check_anew::<K>(alloc, exchanges, first)
 }
 
-// Each request written anew gets the reply that came on the first way.
+// Checks that each request, written by `request_text`, gets the response of the first run.
 fn check_anew<K: StoreKind>(
     alloc: Global,
     exchanges: &[Exchange],
@@ -86,7 +86,7 @@ fn check_anew<K: StoreKind>(
     check_same(alloc, exchanges, "request_text", first, anew.replies())
 }
 
-// The status and the body of each reply.
+// Returns the status and the body of each response.
 fn printed(alloc: Global, replies: &[Replied]) -> Result<Vec<u8>, AllocError> {
     let mut text = Vec::new(alloc);
     for replied in replies {
@@ -113,14 +113,14 @@ struct File {
     body: Vec<u8>,
 }
 
-// What a line of a case is.
+// The meaning of a line of a case.
 #[derive(Drop)]
 enum Step {
-    /// How the asks are spelt matters.
+    /// The responses depend on how the requests are written.
     Spelling,
-    /// The lines behind are a batch file.
+    /// The following lines are a batch file.
     File(File),
-    /// A whole ask.
+    /// A complete request.
     Ask(Vec<u8>),
 }
 
@@ -138,7 +138,7 @@ fn asks_of(alloc: Global, lines: &[Line]) -> Result<Asks, CaseFault> {
 }
 
 impl Asks {
-    // Takes a line, with those behind it.
+    // Reads a line, with the lines after it.
     fn take(&mut self, alloc: Global, line: &Line, behind: &[Line]) -> Result<(), CaseFault> {
         if line.is_answer || self.file.is_none() && line.text.is_empty() {
             return Ok(());
@@ -160,7 +160,7 @@ impl Asks {
     }
 }
 
-/// A connection with this input, and the answers at the front of the lines behind it.
+/// Returns a connection with the given input, and the expected output at the start of `behind`.
 pub fn exchange(
     alloc: Global,
     line: u64,
@@ -175,7 +175,7 @@ pub fn exchange(
     })
 }
 
-// The answers at the front.
+// Returns the lines of expected output at the start.
 fn answers_in(lines: &[Line]) -> &[Line] {
     let count = lines.iter().take_while(|line| line.is_answer).count();
     lines.get(..count).unwrap_or(lines)
@@ -229,7 +229,7 @@ fn ask_of(alloc: Global, client: &str, rest: &str) -> Result<Option<Step>, Alloc
     Ok(Some(Step::Ask(input)))
 }
 
-// The script that asks the same of a drill, if all asks are the office's.
+// Returns the script of a drill with the same requests, if all of them are the office's.
 fn script_of(alloc: Global, lines: &[Line]) -> Result<Option<String>, AllocError> {
     let mut script = String::new(alloc);
     let mut is_in_file = false;
@@ -255,7 +255,7 @@ fn script_of(alloc: Global, lines: &[Line]) -> Result<Option<String>, AllocError
     Ok(Some(script))
 }
 
-// What stands for `set-up`.
+// The lines for `set-up`.
 const SET_UP: &str = r#"== product P1, lot L1 of three blanks from 1000, batch B1
 office 1 {"do":"product","product":"P1","max":255,"low":0,"check":false}
   200 {"product":"P1","result":"created"}
@@ -268,7 +268,7 @@ R1,F00000000101,1,0,0,0101027000
   200 {"batch":"B1","records":1,"result":"created","rows":1}
 "#;
 
-// The lines of a case, with those of the set-up where it is asked for.
+// Returns the lines of a case, with the set-up if the case asks for it.
 fn with_set_up(alloc: Global, case: Case) -> Result<Vec<Line>, CaseFault> {
     let mut lines = Vec::new(alloc);
     for line in case.lines {
@@ -281,7 +281,7 @@ fn with_set_up(alloc: Global, case: Case) -> Result<Vec<Line>, CaseFault> {
     Ok(lines)
 }
 
-// Adds the lines of the set-up, all under one number.
+// Adds the lines of the set-up, all with the same line number.
 fn push_set_up(alloc: Global, lines: &mut Vec<Line>, number: u64) -> Result<(), CaseFault> {
     for set_up in cases(alloc, SET_UP, Repeats::Alone)? {
         for its in set_up.lines {

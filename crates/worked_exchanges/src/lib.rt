@@ -1,4 +1,5 @@
-//! Worked examples over a store: asks and messages, and what answers them on every way.
+//! Runs worked examples that need a store: requests and messages with their responses, through
+//! every public function.
 #![tactic(auto)]
 
 mod exchanges;

@@ -1,4 +1,4 @@
-//! A machine that makes every card of a batch.
+//! Makes every card of a batch as a machine.
 use crate::typed::reply_to;
 use crate::ways::{StoreKind, over};
 use job_facts::{JobStore, Reply};
@@ -6,15 +6,15 @@ use std::alloc::Global;
 use store_data::Product;
 use worked_files::{CaseFault, Printed, check_bytes, post, put_command, put_name};
 
-/// A machine is handed the commands that were printed.
+/// Checks that a machine gets the commands that were printed.
 pub fn check_machine<K: StoreKind>(alloc: Global, printed: &Printed) -> Result<(), CaseFault> {
     let handed = handed_out::<K>(alloc, printed)?;
     let (wanted, came) = (printed.text.as_bytes(), handed.as_bytes());
     over::<K>(check_bytes(alloc, printed.line, "a machine", wanted, came))
 }
 
-// The commands that a machine is handed for each record of a batch, each answered 9000, as they are
-// printed.
+// Returns the commands that a machine gets for each record of a batch, in the form in which they
+// are printed. The machine reports 9000 for each command.
 fn handed_out<K: StoreKind>(alloc: Global, printed: &Printed) -> Result<String, CaseFault> {
     let records = printed.records;
     let mut store = K::fresh(alloc)?;
@@ -27,7 +27,7 @@ fn handed_out<K: StoreKind>(alloc: Global, printed: &Printed) -> Result<String, 
     Ok(text)
 }
 
-// Makes known the product, as many blanks as records, and the batch.
+// Creates the product, a lot with one blank for each record, and the batch.
 fn stock<S: JobStore>(alloc: Global, store: &mut S, printed: &Printed) -> Result<(), CaseFault> {
     let Product {
         max,
@@ -49,7 +49,7 @@ fn stock<S: JobStore>(alloc: Global, store: &mut S, printed: &Printed) -> Result
     Ok(())
 }
 
-// The reply to a request.
+// Returns the reply to a request.
 fn ask<S: JobStore>(
     alloc: Global,
     store: &mut S,
@@ -62,8 +62,8 @@ fn ask<S: JobStore>(
     reply_to(alloc, store, input.as_slice())
 }
 
-// Opens the next record, with this blank, under this number, and answers all its commands. Gives
-// the next number.
+// Opens the next record for a blank and reports a status word for each of its commands. Returns the
+// next request number.
 fn make_card<S: JobStore>(
     alloc: Global,
     store: &mut S,
@@ -92,7 +92,8 @@ fn make_card<S: JobStore>(
     }
 }
 
-// Answers each command of a session until its card is good, and gives the next number.
+// Sends an `answer` request for each command of a session until its card is good. Returns the next
+// request number.
 fn personalise<S: JobStore>(
     alloc: Global,
     store: &mut S,

@@ -1,4 +1,4 @@
-//! Messages as bytes, and the bytes that answer them.
+//! Checks messages, given as bytes, and their responses.
 use crate::exchanges::exchange;
 use crate::ways::{
     Exchange, ONE_BY_ONE, StoreKind, WHOLE, Way, are_few, check_wanted, check_way, connected,
@@ -21,8 +21,8 @@ const BEHIND: Way = Way {
     behind: b"GET / HTTP/1.1\r\n\r\n",
 };
 
-/// Runs a case on every way over a store of each of two kinds, and where it has few messages, of a
-/// third kind; each way has a store of its own. The same comes on all.
+/// Runs a case in every way with the stores `K` and `L`, and if it has few messages also with `M`.
+/// Every run has its own store, and all must have the same output.
 pub fn check_messages<K: StoreKind, L: StoreKind, M: StoreKind>(
     alloc: Global,
     case: &Case,
@@ -61,7 +61,7 @@ fn check_ways<K: StoreKind>(
     Ok(())
 }
 
-// Each message is answered.
+// Returns `true` if every message gets a response.
 fn are_answered(exchanges: &[Exchange]) -> bool {
     exchanges.iter().all(|exchange| match exchange.wanted {
         Wanted::Bytes(_) => true,
@@ -69,7 +69,7 @@ fn are_answered(exchanges: &[Exchange]) -> bool {
     })
 }
 
-// The messages of a case: lines up to the answers behind them.
+// Returns the messages of a case: the lines up to the expected output after them.
 fn messages_of(alloc: Global, lines: &[Line]) -> Result<Vec<Exchange>, CaseFault> {
     let mut exchanges = Vec::new(alloc);
     let mut bytes = Vec::new(alloc);
@@ -95,7 +95,8 @@ fn messages_of(alloc: Global, lines: &[Line]) -> Result<Vec<Exchange>, CaseFault
     Ok(exchanges)
 }
 
-// Each message comes cut after every byte, on a connection of its own, and then whole.
+// Checks that nothing is written for any prefix of a message, each on its own connection, and then
+// sends the complete message.
 fn check_cut<K: StoreKind>(alloc: Global, exchanges: &[Exchange]) -> Result<(), CaseFault> {
     let mut store = K::fresh(alloc)?;
     for exchange in exchanges {
@@ -108,7 +109,7 @@ fn check_cut<K: StoreKind>(alloc: Global, exchanges: &[Exchange]) -> Result<(), 
     Ok(())
 }
 
-// Nothing is written where a message is cut.
+// Checks that nothing is written for an incomplete message.
 fn check_fronts<S: JobStore>(
     alloc: Global,
     store: &mut S,
@@ -123,7 +124,7 @@ fn check_fronts<S: JobStore>(
     Ok(())
 }
 
-// The beginnings of an input.
+// Returns the proper prefixes of an input.
 fn fronts(alloc: Global, input: &[u8]) -> Result<Vec<Vec<u8>>, AllocError> {
     let mut fronts = Vec::new(alloc);
     for cut in 0..input.len() {

@@ -1,4 +1,4 @@
-//! A case's connections as typed arrivals and accounts.
+//! Runs the connections of a case as typed arrivals and accounts.
 ghost use Rattle.std.specs.Prelude.{◌↔◌, ◌≤◌, ◌<◌, ◌^◌, All, IfOk, IfSome, IsTrue};
 ghost use Rattle.job_facts.specs.Requests.{IsArrival, IsCall};
 ghost use Rattle.wire.specs.Asks.{IsInRange};
@@ -18,10 +18,10 @@ use wire::{
 };
 use worked_files::{CaseFault, JSON, TEXT, check_bytes, reply_bytes};
 
-/// One more than the greatest serial or session (this project's profile).
+/// 1 + the largest serial number and session number (this project's profile).
 const PAST_NUMBERS: u64 = 1_000_000_000_000_000_000;
 
-// What these bytes ask, if they ask anything.
+// Returns the request in these bytes, if they contain one.
 fn asked(alloc: Global, input: &[u8]) -> Result<Option<Asked>, CaseFault>
     ensures { IfOk result (λ found. IfSome found IsInRange) }
 {
@@ -36,8 +36,8 @@ fn asked(alloc: Global, input: &[u8]) -> Result<Option<Asked>, CaseFault>
     }
 }
 
-/// Each arrival by `handle` and each account by its call gives the reply that came on the first
-/// way.
+/// Checks that `handle` for each arrival, and the call for each account, returns the reply of the
+/// first run.
 pub fn check_handled<K: StoreKind>(
     alloc: Global,
     exchanges: &[Exchange],
@@ -53,7 +53,7 @@ pub fn check_handled<K: StoreKind>(
     Ok(())
 }
 
-// The reply to a message that asks for something.
+// Returns the reply to a request.
 fn answered<S: JobStore>(
     alloc: Global,
     store: &mut S,
@@ -114,13 +114,13 @@ fn refused(alloc: Global, refusal: Refusal) -> Result<Vec<u8>, CaseFault> {
     body_of_reply(alloc, &Reply::Refused { refusal })
 }
 
-// The bytes of a reply.
+// Returns the bytes of a reply.
 fn body_of_reply(alloc: Global, reply: &Reply) -> Result<Vec<u8>, CaseFault> {
     let body = body_of(alloc, reply)?;
     Ok(reply_bytes(alloc, status_of(reply), JSON, None, body.as_slice())?)
 }
 
-/// The arrivals in one run give the replies that came on the first way.
+/// Checks that the arrivals, handled in one call, get the replies of the first run.
 pub fn check_run<K: StoreKind>(
     alloc: Global,
     exchanges: &[Exchange],
@@ -165,7 +165,8 @@ fn arrivals(alloc: Global, exchanges: &[Exchange]) -> Result<Vec<Arrival>, CaseF
     Ok(arrivals)
 }
 
-/// Each reply to an arrival is read back by `parse_reply`, and written again is the same.
+/// Checks that `parse_reply` reads each reply to an arrival, and that it is the same when written
+/// again.
 pub fn check_parsed(
     alloc: Global,
     exchanges: &[Exchange],
@@ -186,8 +187,8 @@ pub fn check_parsed(
     Ok(())
 }
 
-// A reply read back and written again; no bytes where an arrival's can't be read, and none where no
-// arrival was asked.
+// Reads a reply and writes it again. Returns no bytes if the reply to an arrival can't be read, and
+// `None` if the request isn't an arrival.
 fn written_again(
     alloc: Global,
     exchange: &Exchange,
@@ -202,7 +203,7 @@ fn written_again(
     }
 }
 
-/// The inputs with each request written anew by `request_text`.
+/// Returns the inputs, with each request written by `request_text`.
 pub fn written_anew(alloc: Global, exchanges: &[Exchange]) -> Result<Vec<Vec<u8>>, CaseFault> {
     let mut inputs = Vec::new(alloc);
     for exchange in exchanges {
@@ -233,7 +234,7 @@ fn anew(alloc: Global, arrival: &Arrival) -> Result<Option<Bytes>, CaseFault>
     Ok(Some(text))
 }
 
-// Whether `request_text` takes a call.
+// Returns `true` if `request_text` can write a request.
 fn is_sendable(call: &Call) -> bool
     requires { IsCall call.now }
     ensures { IsTrue result → IsSendable call.now }
@@ -253,7 +254,7 @@ fn is_sendable_job(request: &Request) -> bool
         Request::Open { blank, .. } => *blank < PAST_NUMBERS,
         Request::Discard { blank } => *blank < PAST_NUMBERS,
         Request::Answer { session, index, sw } => {
-            // Read for their ranges.
+            // Reading both values tells the checker their ranges.
             let (_index, _sw) = (*index, *sw);
             is_session(*session)
         }
@@ -268,7 +269,7 @@ fn is_session(session: u64) -> bool
     1 <= session && session < PAST_NUMBERS
 }
 
-/// The reply to a message that brings an arrival.
+/// Returns the reply to a message that contains an arrival.
 pub fn reply_to<S: JobStore>(
     alloc: Global,
     store: &mut S,

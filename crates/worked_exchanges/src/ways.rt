@@ -1,21 +1,21 @@
-//! Connections in memory, and what comes out of them.
+//! Serves connections in memory and checks their output.
 use job_facts::JobStore;
 use server::{End, MemoryConnections, Replied, serve_all};
 use std::alloc::{AllocError, Global};
 use worked_files::{CaseFault, NO_STORE, Wanted, check_bytes};
 
-/// A kind of stores, of which a case may have one for itself.
+/// A kind of store. Every run of a case has its own store.
 pub trait StoreKind {
     type Store: JobStore + Drop;
 
-    /// An empty store.
+    /// Creates an empty store.
     fn fresh(alloc: Global) -> Result<Self::Store, CaseFault>;
 
-    /// What it is called where an answer differs.
+    /// Returns the name of the kind, for reports of differences.
     fn called() -> &'static str;
 }
 
-/// Says that a way was gone over a store of this kind, where an answer differs.
+/// Adds the name of the store to the report of a difference.
 pub fn over<K: StoreKind>(ended: Result<(), CaseFault>) -> Result<(), CaseFault> {
     match ended {
         Err(
@@ -37,17 +37,17 @@ pub fn over<K: StoreKind>(ended: Result<(), CaseFault>) -> Result<(), CaseFault>
     }
 }
 
-/// What a connection of a case brings, and what must come out of it.
+/// The input of a connection and its expected output.
 #[derive(Drop)]
 pub struct Exchange {
-    /// The line of the file that asks.
+    /// The line of the file with the input.
     pub line: u64,
     pub input: Vec<u8>,
     pub wanted: Wanted,
 }
 
-/// A way to serve a case's connections: its name, the most bytes that come at once, and what stands
-/// behind each input.
+/// A way to serve the connections of a case: its name, the maximum number of bytes that arrive at
+/// once, and the bytes after each input.
 #[derive(Clone, Copy)]
 pub struct Way {
     pub name: &'static str,
@@ -55,24 +55,24 @@ pub struct Way {
     pub behind: &'static [u8],
 }
 
-// More asks than this would take the tables much of the gate's time.
+// With more requests than this, the run over tables would take too much of the test time.
 const FEW: usize = 100;
 
-/// All at once.
+/// Up to 8,192 bytes arrive at once.
 pub const WHOLE: Way = Way {
     name: "whole",
     most: 8192,
     behind: b"",
 };
 
-/// One byte at a time.
+/// One byte arrives at a time.
 pub const ONE_BY_ONE: Way = Way {
     name: "one byte at a time",
     most: 1,
     behind: b"",
 };
 
-/// The connections of a case, served in turn over a store of their own.
+/// Serves the connections of a case, one after another, with a new store.
 pub fn served<K: StoreKind>(
     alloc: Global,
     exchanges: &[Exchange],
@@ -83,7 +83,7 @@ pub fn served<K: StoreKind>(
     connected(alloc, &mut store, inputs, way.most)
 }
 
-/// The inputs, each with these bytes behind it.
+/// Returns the inputs, each with the given bytes after it.
 pub fn inputs(
     alloc: Global,
     exchanges: &[Exchange],
@@ -98,7 +98,7 @@ pub fn inputs(
     Ok(inputs)
 }
 
-/// The same comes out of the connections of a case on another way.
+/// Checks that the connections of a case have the same output in another way.
 pub fn check_way<K: StoreKind>(
     alloc: Global,
     exchanges: &[Exchange],
@@ -109,12 +109,12 @@ pub fn check_way<K: StoreKind>(
     check_same(alloc, exchanges, way.name, first, again.replies())
 }
 
-/// A case of so many connections is gone over the slower store too.
+/// Returns `true` if a case has few enough connections for the slow store.
 pub fn are_few(exchanges: &[Exchange]) -> bool {
     exchanges.len() <= FEW
 }
 
-/// These inputs, served in turn over this store.
+/// Serves the inputs, one after another, with the given store.
 pub fn connected<S: JobStore>(
     alloc: Global,
     store: &mut S,
@@ -129,7 +129,7 @@ pub fn connected<S: JobStore>(
     }
 }
 
-/// Each connection ended as it must, and what was wanted came out of it.
+/// Checks that each connection ended correctly and had its expected output.
 pub fn check_wanted(
     alloc: Global,
     exchanges: &[Exchange],
@@ -174,7 +174,7 @@ fn wanted_text(alloc: Global, wanted: &Wanted) -> Result<String, AllocError> {
     }
 }
 
-/// The same came out of each connection as on the first way.
+/// Checks that each connection had the same output as in the first run.
 pub fn check_same(
     alloc: Global,
     exchanges: &[Exchange],

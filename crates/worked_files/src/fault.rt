@@ -1,25 +1,25 @@
-//! Why a case is not what its file says.
+//! The faults of a worked example.
 use std::alloc::{AllocError, AllocFailed, Global};
 
-/// Why a case fails.
+/// A reason why a case fails.
 #[derive(Debug, Drop)]
 pub enum CaseFault {
-    /// A way answers something else than what must come out.
+    /// The output of a run differs from the expected output.
     Differs {
-        /// The line of the file that asks.
+        /// The line of the file with the input.
         line: u64,
-        /// The way that was gone.
+        /// The name of the run.
         way: &'static str,
-        /// What it was gone over.
+        /// The name of the store.
         store: &'static str,
         wanted: String,
         came: String,
     },
-    /// A line has none of the forms of its file.
+    /// A line is malformed.
     Form {
         line: u64,
     },
-    /// Memory was refused, or a call failed without cause, as if it was.
+    /// An allocation failed, or a call failed without a cause, as if an allocation had failed.
     Memory,
 }
 
@@ -35,10 +35,10 @@ impl<T: Drop> From<AllocFailed<T>> for CaseFault {
     }
 }
 
-/// What a way is gone over that has no store.
+/// The name of the store in a run without a store.
 pub const NO_STORE: &str = "no store";
 
-/// Two byte strings are one.
+/// Checks that two byte strings are equal.
 pub fn check_bytes(
     alloc: Global,
     line: u64,

@@ -1,5 +1,5 @@
-//! Files of worked examples: their cases, the short forms in their lines, the bytes of messages and
-//! replies; and what no store is needed for: batches and their commands or refusals, and tables.
+//! Reads files of worked examples (docs/WORKED.md), and runs those that need no store: batch files
+//! with their commands or refusals, and tables.
 #![tactic(auto)]
 
 mod fault;

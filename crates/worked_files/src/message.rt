@@ -1,7 +1,7 @@
-//! The bytes of messages.
+//! Builds HTTP requests.
 use std::alloc::{AllocError, Global};
 
-/// A POST with this body.
+/// Returns a POST with the given body.
 pub fn post(alloc: Global, target: &str, body: &[u8]) -> Result<Vec<u8>, AllocError> {
     let size = body.len();
     let head = format!(in alloc;
@@ -12,7 +12,7 @@ pub fn post(alloc: Global, target: &str, body: &[u8]) -> Result<Vec<u8>, AllocEr
     Ok(bytes)
 }
 
-/// A GET.
+/// Returns a GET.
 pub fn get(alloc: Global, target: &str) -> Result<Vec<u8>, AllocError> {
     let head = format!(in alloc; "GET {target} HTTP/1.1\r\nHost: localhost\r\n\r\n")?;
     Ok(head.into_bytes())

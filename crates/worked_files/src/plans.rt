@@ -1,4 +1,4 @@
-//! Batch files, and their commands or their refusal.
+//! Checks batch files with their commands or their refusal.
 ghost use Rattle.std.specs.Prelude.{All, IfOk, IfSome};
 ghost use Rattle.store_data.specs.Sequence.{AreRows, IsProduct};
 
@@ -10,30 +10,30 @@ use plan_print::{PlanStop, plan_engine};
 use std::alloc::{AllocError, Global};
 use store_data::{Name, Product, Row, grouped};
 
-/// The most commands and the longest file for which a machine is handed the commands too.
+/// The largest number of commands, and the largest file, for which a machine also makes the cards.
 const MOST_COMMANDS: usize = 300;
 
 const MOST_FILE: usize = 16_384;
 
-/// More than the rows of any batch (this project's profile).
+/// More rows than any batch has (this project's profile).
 const PAST_ROWS: u32 = 5000;
 
-/// A batch whose commands were printed, few enough for a machine to be handed them too.
+/// A batch whose commands were printed. They are few enough for a machine to make the cards.
 #[derive(Drop)]
 pub struct Printed {
-    /// The line of the file that asks.
+    /// The line of the file with the input.
     pub line: u64,
     pub product: Product,
     /// The batch file.
     pub raw: Vec<u8>,
-    /// How many records it has.
+    /// The number of records.
     pub records: usize,
-    /// A line for each record's name and for each of its commands.
+    /// A line for the name of each record and for each of its commands.
     pub text: String,
 }
 
-/// Runs a case on every way that needs no store. Gives what a machine is to be handed, if it has
-/// commands.
+/// Runs a case through every public function that needs no store. Returns the printed commands if
+/// there are any and a machine should make the cards.
 pub fn check_plan(alloc: Global, case: &Case) -> Result<Option<Printed>, CaseFault> {
     let form = CaseFault::Form { line: case.number };
     let Some((head, lines)) = case.lines.split_first() else {
@@ -64,7 +64,7 @@ pub fn check_plan(alloc: Global, case: &Case) -> Result<Option<Printed>, CaseFau
     }
 }
 
-// A case's batch file, the product of its options, and its line.
+// The batch file of a case, the product of its options, and its line.
 #[derive(Clone, Copy)]
 struct Batch<'a> {
     line: u64,
@@ -72,8 +72,8 @@ struct Batch<'a> {
     raw: &'a [u8],
 }
 
-// Every way gives what was printed, which is what must come out. Gives the number of records that a
-// machine is to make.
+// Checks that every function returns what `persod plan` printed, and that this is the expected
+// output. Returns the number of records that a machine should make.
 fn check_printed(
     alloc: Global,
     batch: &Batch<'_>,
@@ -96,7 +96,7 @@ fn check_printed(
     check_commands(alloc, batch, printed)
 }
 
-// Two texts are one.
+// Checks that two texts are equal.
 fn check_text(
     alloc: Global,
     line: u64,
@@ -107,7 +107,7 @@ fn check_text(
     check_bytes(alloc, line, way, wanted.as_bytes(), came.as_bytes())
 }
 
-// What the next word of a case's first line is.
+// The meaning of the next word in the first line of a case.
 #[derive(Clone, Copy)]
 enum Awaited {
     Word,
@@ -115,7 +115,7 @@ enum Awaited {
     Low,
 }
 
-// Whether the file is spelt as bytes, and the product of the options.
+// Returns whether the file is written with escapes, and the product of the options.
 fn product_of(head: &str) -> Option<(bool, Product)>
     ensures { IfSome result (λ p. IsProduct p.1) }
 {
@@ -155,7 +155,7 @@ fn product_with(max: u8, low: u8, check: bool) -> Option<Product>
     })
 }
 
-// The bytes of the file.
+// Returns the bytes of the batch file.
 fn file_of(alloc: Global, is_bytes: bool, lines: &[Line]) -> Result<Option<Vec<u8>>, AllocError> {
     let mut bytes = Vec::new(alloc);
     let mut is_over = false;
@@ -164,7 +164,7 @@ fn file_of(alloc: Global, is_bytes: bool, lines: &[Line]) -> Result<Option<Vec<u
         if line.is_answer {
             is_over = true;
         } else if is_over {
-            // A file has no line behind what must come out.
+            // A file has no line after the expected output.
             if !text.is_empty() {
                 return Ok(None);
             }
@@ -178,7 +178,7 @@ fn file_of(alloc: Global, is_bytes: bool, lines: &[Line]) -> Result<Option<Vec<u
     Ok(Some(bytes))
 }
 
-// What `persod plan` prints, or how it prints its refusal.
+// Returns the output of `persod plan`, or the text of its refusal.
 fn plan_text(alloc: Global, product: &Product, raw: &[u8]) -> Result<String, CaseFault>
     requires { IsProduct product.now }
 {
@@ -199,7 +199,7 @@ fn refused(alloc: Global, fault: RowFault) -> Result<String, AllocError> {
     format!(in alloc; "refused {code} {kind} row {row}\n")
 }
 
-// What the check of the batch answers.
+// Returns the result of the batch check.
 fn totals(alloc: Global, product: &Product, raw: &[u8]) -> Result<String, CaseFault>
     requires { IsProduct product.now }
 {
@@ -213,7 +213,7 @@ fn totals(alloc: Global, product: &Product, raw: &[u8]) -> Result<String, CaseFa
     }
 }
 
-// What must come out is what came.
+// Checks that the output is the expected one.
 fn check_answers(
     alloc: Global,
     line: u64,
@@ -243,8 +243,8 @@ fn answers(alloc: Global, lines: &[Line]) -> Result<String, AllocError> {
     Ok(wanted)
 }
 
-// The rows one by one are as many as the check counts, or end in the same fault; and `read_batch`
-// gives the same.
+// Checks that the rows, read one by one, are as many as the batch check counts or end with the same
+// fault, and that `read_batch` returns the same.
 fn check_rows(alloc: Global, batch: &Batch<'_>, totals: &str) -> Result<(), CaseFault>
     requires { IsProduct batch.now.product }
 {
@@ -254,7 +254,7 @@ fn check_rows(alloc: Global, batch: &Batch<'_>, totals: &str) -> Result<(), Case
         None => format!(in alloc; "accepted {count} rows")?,
     };
     let read = read(alloc, &batch.product, batch.raw)?;
-    // The faults of the whole file, 40 and 21 to 23, are no row's.
+    // The faults 40 and 21 to 23 concern the whole file, not a row.
     let is_of_file = fault.is_none()
         && totals.starts_with("refused ")
         && !totals.starts_with("refused 3");
@@ -267,7 +267,7 @@ fn check_rows(alloc: Global, batch: &Batch<'_>, totals: &str) -> Result<(), Case
     check_text(alloc, batch.line, "rows", totals, came.as_str())
 }
 
-// How many rows come one by one, and the fault that ends them.
+// Returns how many rows are read one by one, and the fault after them.
 fn streamed(
     alloc: Global,
     product: &Product,
@@ -287,7 +287,7 @@ fn streamed(
     Err(CaseFault::Memory)
 }
 
-// What `read_batch` gives.
+// Returns the result of `read_batch`.
 fn read(alloc: Global, product: &Product, raw: &[u8]) -> Result<String, CaseFault>
     requires { IsProduct product.now }
 {
@@ -298,7 +298,7 @@ fn read(alloc: Global, product: &Product, raw: &[u8]) -> Result<String, CaseFaul
     }
 }
 
-// The rows of each record.
+// Returns the rows of each record.
 fn records(alloc: Global, product: &Product, raw: &[u8]) -> Result<Vec<Vec<Row>>, CaseFault>
     requires { IsProduct product.now }
     ensures { IfOk result (λ records. All (λ rows. AreRows rows.items) records.items) }
@@ -309,7 +309,7 @@ fn records(alloc: Global, product: &Product, raw: &[u8]) -> Result<Vec<Vec<Row>>
     }
 }
 
-// The list and the cursor give the commands that were printed. Gives the number of records where
+// Checks that the list and the cursor give the printed commands. Returns the number of records if
 // these are few.
 fn check_commands(
     alloc: Global,

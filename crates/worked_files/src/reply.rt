@@ -1,26 +1,26 @@
-//! What must come out of a connection.
+//! The expected output of a connection.
 use crate::fault::CaseFault;
 use crate::text::{Line, put_bytes};
 use std::alloc::{AllocError, Global};
 
-/// What all replies but a report carry.
+/// The content type of all responses except reports.
 pub const JSON: &str = "application/json";
 
-/// What a report is.
+/// The content type of reports.
 pub const TEXT: &str = "text/plain";
 
-/// What must come out of a connection.
+/// The expected output of a connection.
 #[derive(Drop)]
 pub enum Wanted {
-    /// Whatever comes, but no failure without cause.
+    /// Any output, but no failure without a cause.
     Any,
-    /// Nothing: the message is broken.
+    /// No output: the message is incomplete.
     Nothing,
-    /// These bytes.
+    /// Exactly these bytes.
     Bytes(Vec<u8>),
 }
 
-/// The bytes of a reply with this body. `allow` is the method of a 405.
+/// Returns the bytes of a response with the given body. `allow` is the method for status 405.
 pub fn reply_bytes(
     alloc: Global,
     status: u16,
@@ -45,7 +45,7 @@ pub fn reply_bytes(
     Ok(bytes)
 }
 
-// The words of a status (RFC 9110 section 15; RFC 6585 section 5).
+// Returns the reason phrase of a status (RFC 9110, section 15; RFC 6585, section 5).
 fn phrase_of(status: u16) -> &'static str {
     match status {
         200 => "OK",
@@ -59,8 +59,12 @@ fn phrase_of(status: u16) -> &'static str {
     }
 }
 
-/// What the answers behind an ask say must come out. Errors: no answer or one of another form, and
-/// refused memory.
+/// Returns the expected output that the lines `answers` after a request describe.
+///
+/// # Errors
+///
+/// - `Form`: there is no such line, or it is malformed.
+/// - `Memory`: an allocation fails.
 pub fn wanted_of(alloc: Global, line: u64, answers: &[Line]) -> Result<Wanted, CaseFault> {
     let Some((first, others)) = answers.split_first() else {
         return Err(CaseFault::Form { line });
@@ -92,7 +96,8 @@ fn spelt(alloc: Global, answers: &[Line]) -> Result<Option<Vec<u8>>, AllocError>
     Ok(Some(bytes))
 }
 
-// A status with a body, a report's lines, or the name of a fixed body.
+// Returns a response from its short form: a status with a body, with the lines of a report, or with
+// the name of a fixed body.
 fn short_reply(alloc: Global, first: &str, others: &[Line]) -> Result<Option<Vec<u8>>, AllocError> {
     let Some((status, rest)) = first.split_once(' ') else {
         return Ok(None);

@@ -1,4 +1,4 @@
-//! Tables of groupings, records and status words.
+//! Checks tables of groupings, EMV records and status words.
 ghost use Rattle.std.specs.Prelude.{◌≤◌};
 ghost use Rattle.store_data.specs.Sequence.{IsProduct};
 
@@ -12,7 +12,7 @@ use std::alloc::Global;
 use store_data::{Class, Name, Product, class};
 use tlv_check::is_record;
 
-/// What a row of a table is.
+/// The kind of rows of a table.
 #[derive(Clone, Copy)]
 pub enum Table {
     Groupings,
@@ -20,7 +20,7 @@ pub enum Table {
     Words,
 }
 
-/// Each row of a case has its answer, the line behind it.
+/// Checks that each row of a case has the result in the line after it.
 pub fn check_table(alloc: Global, table: Table, case: &Case) -> Result<(), CaseFault> {
     for (i, line) in case.lines.iter().enumerate() {
         if line.is_answer {
@@ -46,7 +46,7 @@ fn check_row(alloc: Global, table: Table, line: &Line, answer: &Line) -> Result<
     check_bytes(alloc, line.number, "table", wanted, came.as_bytes())
 }
 
-// The sent form of a grouping's text, or its first fault.
+// Returns the encoding that is sent for the text of a grouping, or its first fault.
 fn grouping(alloc: Global, line: &Line) -> Result<String, CaseFault> {
     let text = line.text.as_str();
     let by_text = match &from_hex_text(alloc, text.as_bytes()) {
@@ -59,7 +59,7 @@ fn grouping(alloc: Global, line: &Line) -> Result<String, CaseFault> {
     }
 }
 
-// What the text's reading gave, where the readings of its bytes give the same.
+// Returns `by_text`, the result of reading the text, if reading the bytes has the same result.
 fn by_bytes(alloc: Global, bytes: &[u8], by_text: String) -> Result<String, CaseFault> {
     let one = match read_one(bytes) {
         Ok((grouping, [])) => Ok(grouping),
@@ -81,7 +81,7 @@ fn fault_text(alloc: Global, fault: DgiFault) -> Result<String, CaseFault> {
     }
 }
 
-// A grouping that was read, written in its sent form.
+// Returns the encoding that is sent for a grouping.
 fn written(alloc: Global, read: Result<Grouping<'_>, DgiFault>) -> Result<String, CaseFault> {
     let grouping = match read {
         Ok(grouping) => grouping,
@@ -96,7 +96,7 @@ fn written(alloc: Global, read: Result<Grouping<'_>, DgiFault>) -> Result<String
     Ok(hex::encode_upper(alloc, sent)?)
 }
 
-// Whether data is a record, alone and as a grouping of a batch.
+// Returns whether data is an EMV record, by itself and as a grouping of a batch.
 fn record(alloc: Global, line: &Line) -> Result<String, CaseFault> {
     let text = line.text.as_str();
     let Ok(data) = hex::decode(alloc, text) else {
@@ -124,7 +124,7 @@ fn record(alloc: Global, line: &Line) -> Result<String, CaseFault> {
     Ok(format!(in alloc; "{found}{other}")?)
 }
 
-// A product that checks.
+// Returns a product that checks records.
 fn checking() -> Product
     ensures { IsProduct result }
 {
@@ -136,7 +136,7 @@ fn checking() -> Product
     }
 }
 
-// What a status word means in general, and to the last piece of a tolerant segment.
+// Returns the meaning of a status word in general, and for the last piece of a tolerant segment.
 fn word(alloc: Global, line: &Line) -> Result<String, CaseFault> {
     let Ok(sw) = u16::from_str_radix(line.text.as_str(), 16) else {
         return Err(CaseFault::Form { line: line.number });

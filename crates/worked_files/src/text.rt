@@ -1,35 +1,35 @@
-//! A file of worked examples: its cases, their lines, and the short forms in them.
+//! Reads a file of worked examples: its cases, their lines, and the short forms in them.
 use crate::fault::CaseFault;
 use std::alloc::{AllocError, Global};
 
-/// A line of a case, with its short forms written out.
+/// A line of a case, with its short forms expanded.
 #[derive(Drop)]
 pub struct Line {
-    /// The number of the file's line, from 1.
+    /// The number of the line in the file, from 1.
     pub number: u64,
-    /// Whether it is what must come out. The two spaces in front are not in the text.
+    /// `true` if the line is expected output. `text` lacks the two spaces at its start.
     pub is_answer: bool,
     pub text: String,
 }
 
-/// A case: what stands between two titles.
+/// A case: the lines between two titles.
 #[derive(Drop)]
 pub struct Case {
-    /// The line of its title.
+    /// The line number of the title.
     pub number: u64,
     pub lines: Vec<Line>,
 }
 
-/// Whose answers stand behind a repeated line.
+/// The expected output after a repeated line.
 #[derive(Clone, Copy, PartialEq, Eq)]
 pub enum Repeats {
-    /// Each line is repeated alone.
+    /// Only the line is repeated.
     Alone,
-    /// The answers right behind a repeated ask are those of each of its asks.
+    /// The expected output after the line applies to each repetition.
     WithAnswers,
 }
 
-// A line as it stands in the file.
+// A line of the file, with its short forms.
 #[derive(Clone, Copy)]
 struct Raw<'a> {
     number: u64,
@@ -38,7 +38,12 @@ struct Raw<'a> {
     text: &'a str,
 }
 
-/// The cases of a file. Errors: a line in front of the first title, and refused memory.
+/// Reads the cases of a file.
+///
+/// # Errors
+///
+/// - `Form`: a line is before the first title.
+/// - `Memory`: an allocation fails.
 pub fn cases(alloc: Global, text: &str, repeats: Repeats) -> Result<Vec<Case>, CaseFault> {
     let mut cases = Vec::new(alloc);
     let mut title = None;
@@ -87,14 +92,14 @@ fn raw_line(number: u64, line: &str) -> Raw<'_> {
     }
 }
 
-// The range and the line behind `repeat`.
+// Returns the range and the line after `repeat`.
 fn repeated(line: &str) -> Option<((u64, u64), &str)> {
     let (first, rest) = line.strip_prefix("repeat ")?.split_once(' ')?;
     let (last, text) = rest.split_once(' ')?;
     Some(((first.parse().ok()?, last.parse().ok()?), text))
 }
 
-// A case of these lines, but for the empty ones at its end.
+// Returns the case with these lines, except the empty ones at its end.
 fn made(
     alloc: Global,
     number: u64,
@@ -125,7 +130,7 @@ fn made(
     Ok(Case { number, lines })
 }
 
-// How many lines there are without the empty ones at the end.
+// Returns the number of lines without the empty ones at the end.
 fn filled(raws: &[Raw<'_>]) -> usize {
     let mut count = 0usize;
     for (i, raw) in raws.iter().enumerate() {
@@ -136,7 +141,7 @@ fn filled(raws: &[Raw<'_>]) -> usize {
     count
 }
 
-// Puts the answers at the front of these lines.
+// Adds the expected output at the start of `raws` to `lines`.
 fn put_answers(
     alloc: Global,
     lines: &mut Vec<Line>,
@@ -166,7 +171,7 @@ fn put(
     Ok(())
 }
 
-// A text with its short forms written out.
+// Returns a text with its short forms expanded.
 fn written_out(alloc: Global, text: &str, n: Option<u64>) -> Result<String, AllocError> {
     let mut out = String::new(alloc);
     for (i, part) in text.split('{').enumerate() {
@@ -183,7 +188,7 @@ fn written_out(alloc: Global, text: &str, n: Option<u64>) -> Result<String, Allo
     Ok(out)
 }
 
-// What the short form at the front stands for, and what stands behind it.
+// Returns the expansion of the short form at the start, and the rest after it.
 fn short_form<'a>(
     alloc: Global,
     part: &'a str,
@@ -204,13 +209,13 @@ fn short_form<'a>(
     Ok(Some((made, behind)))
 }
 
-// A text, and how often it stands.
+// Returns a text and its number of repetitions.
 fn many_of(inside: &str) -> Option<(&str, usize)> {
     let (piece, count) = inside.rsplit_once('*')?;
     Some((piece, count.parse().ok()?))
 }
 
-// Where a byte stands in the spelling of bytes.
+// The position within an escape.
 #[derive(Clone, Copy, PartialEq, Eq)]
 enum Spelling {
     Plain,
@@ -219,8 +224,8 @@ enum Spelling {
     Low(u8),
 }
 
-/// Adds the bytes that a text spells, in which `\r`, `\n`, `\t`, `\\` and `\xHH` stand for one.
-/// Answers whether it spells any.
+/// Adds the bytes of a text, in which `\r`, `\n`, `\t`, `\\` and `\xHH` each represent one byte.
+/// Returns `false` if the text has another escape.
 pub fn put_bytes(bytes: &mut Vec<u8>, text: &str) -> Result<bool, AllocError> {
     let mut spelling = Spelling::Plain;
     for byte in text.bytes() {

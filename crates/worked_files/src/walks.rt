@@ -1,4 +1,4 @@
-//! The commands of a batch's records, by the list and by the cursor.
+//! Lists the commands of the records of a batch by the list and by the cursor.
 ghost use Rattle.std.specs.Prelude.{All};
 ghost use Rattle.store_data.specs.Sequence.{AreRows, IsProduct};
 
@@ -6,8 +6,7 @@ use crate::fault::CaseFault;
 use std::alloc::{AllocError, Global};
 use store_data::{Cursor, PlanFault, Product, RecordPlan, Row, count, list, plan};
 
-/// The lines of each record: its name, and its commands where the list and the cursor have the
-/// same.
+/// Returns the lines of each record: its name, and its commands if the list and the cursor agree.
 pub fn text_of(alloc: Global, product: &Product, records: &[Vec<Row>]) -> Result<String, CaseFault>
     requires product { IsProduct product.now }
     requires records { All (λ rows. AreRows rows.items) records.now }
@@ -50,20 +49,20 @@ fn put_commands(alloc: Global, text: &mut String, commands: &[Vec<u8>]) -> Resul
     Ok(())
 }
 
-/// Adds a record's name line.
+/// Adds the line with the name of a record.
 pub fn put_name(alloc: Global, text: &mut String, name: &[u8]) -> Result<(), AllocError> {
     text.push_str("record ")?;
     text.push_str(String::from_utf8_lossy(alloc, name)?.as_str())?;
     text.push('\n')
 }
 
-/// Adds a command's line.
+/// Adds the line of a command.
 pub fn put_command(alloc: Global, text: &mut String, command: &[u8]) -> Result<(), AllocError> {
     text.push_str(hex::encode_upper(alloc, command)?.as_str())?;
     text.push('\n')
 }
 
-// The cursor gives these commands, one after the other, and is then done.
+// Returns `true` if the cursor gives exactly these commands, one after another.
 fn is_walked(plan: &RecordPlan<'_>, commands: &[Vec<u8>]) -> bool {
     let mut cursor = Cursor::start();
     let mut command = [0; 260];

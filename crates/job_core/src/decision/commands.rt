@@ -1,4 +1,4 @@
-//! Commands handed out from a record's segments.
+//! Builds commands from the segments of a record.
 ghost use Rattle.std.specs.Prelude.{◌≡◌, ◌≤◌, ℕ, List, Some, IfOk, IfSome, length, slice_get};
 ghost use Rattle.store_data.specs.Cursor.{cursor_at, segment_at, shown};
 ghost use Rattle.store_data.specs.Sequence.{IsPlan, Plan, sequence};
@@ -12,7 +12,8 @@ use job_facts::{JobStore, SegmentRow, StoreFault};
 use std::alloc::{AllocError, Global};
 use store_data::{Bytes, Cursor, Name, SegmentView};
 
-/// The command at a cursor of a record's plan; at the plan's end there is none.
+/// Returns the command at `cursor` in the plan of the record `rec`, or `None` at the end of the
+/// plan.
 pub(crate) fn command<S: JobStore>(
     alloc: Global,
     store: &mut S,
@@ -30,7 +31,8 @@ pub(crate) fn command<S: JobStore>(
     Ok(command_from(alloc, &segment, cursor)?)
 }
 
-/// The command at a cursor, from the record's segment there; past the plan's end there is none.
+/// Returns the command at `cursor` from `segment`, the segment of the record at the cursor, or
+/// `None` at the end of the plan.
 pub(crate) fn command_from(
     alloc: Global,
     segment: &Option<SegmentRow>,
@@ -48,8 +50,8 @@ pub(crate) fn command_from(
     }
 }
 
-// The command at a cursor, from the segment there. A cursor that stands in no such segment has
-// none.
+// Returns the command at `cursor` from `segment`, the segment at the cursor. Returns `None` if the
+// cursor doesn't fit the segment, which never happens for the cursors of a plan.
 fn command_in(
     alloc: Global,
     segment: &SegmentRow,
@@ -70,7 +72,7 @@ fn command_in(
     Ok(Some(Bytes::from_vec(Vec::from_slice(alloc, &out[..size])?)))
 }
 
-/// The segment as a cursor sees it.
+/// Borrows the segment in the form that a cursor needs.
 pub(crate) fn view(segment: &SegmentRow) -> SegmentView<'_>
     ensures shown { shown result ≡ placed_of segment.now }
     ensures few { length result.aid.now ≤ 16 }

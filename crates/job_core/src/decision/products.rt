@@ -1,4 +1,4 @@
-//! The decisions on products, lots and batches.
+//! The decisions on products, lots and imports.
 ghost use Rattle.std.specs.Prelude.{◌≡◌, ◌<◌, ◌+◌, None, Some, IfErr, IfOk, IfSome, length};
 ghost use Rattle.store_data.specs.Sequence.{IsProduct};
 ghost use Rattle.batch_import.specs.Batch.{batch_of};
@@ -20,16 +20,16 @@ use job_facts::{
 use std::alloc::Global;
 use store_data::{Name, Product, laws};
 
-/// The most products (this project's profile).
+/// The maximum number of products (this project's profile).
 const MOST_PRODUCTS: u64 = 256;
 
-/// The most lots (this project's profile).
+/// The maximum number of lots (this project's profile).
 const MOST_LOTS: u64 = 4096;
 
-/// The most batches (this project's profile).
+/// The maximum number of batches (this project's profile).
 const MOST_BATCHES: u64 = 4096;
 
-/// The decision on a product.
+/// Decides a `product` request.
 pub(crate) fn product<S: JobStore>(
     store: &mut S,
     client: &Name,
@@ -46,7 +46,8 @@ pub(crate) fn product<S: JobStore>(
     Ok(product_by(client, product, kept, products))
 }
 
-// By the product that is kept under its code, and how many there are.
+// Decides from `kept`, the stored product with the same name, and `products`, the number of
+// products.
 #[tactic(auto, unfolding(job_facts::specs::Steps::step))]
 fn product_by(
     client: &Name,
@@ -93,7 +94,7 @@ fn same_product(p: &Product, q: &Product) -> bool
     p.code == q.code && p.max == q.max && p.low == q.low && p.check == q.check
 }
 
-/// The decision on a lot.
+/// Decides a `lot` request.
 pub(crate) fn lot<S: JobStore>(
     store: &mut S,
     client: &Name,
@@ -112,8 +113,8 @@ pub(crate) fn lot<S: JobStore>(
     Ok(lot_by(client, lot, kept, product, overlaps, lots))
 }
 
-// By the lot that is kept under its name, its product, whether a serial of it lies in a lot, and
-// how many lots there are.
+// Decides from `kept`, the stored lot with the same name, its product, whether one of its serials
+// is already in a lot, and `lots`, the number of lots.
 #[tactic(auto, unfolding(job_facts::specs::Steps::step))]
 fn lot_by(
     client: &Name,
@@ -139,7 +140,7 @@ fn lot_by(
     }
 }
 
-// A lot under a new name.
+// Decides on a lot with a new name.
 fn new_lot(lot: &Lot, product: Option<Product>, overlaps: bool, lots: u64) -> Decision<'static>
     requires { IsLotRange lot.now }
     ensures { (f : Facts) → IsSound f → lot_named f.lots lot.now.name ≡ None
@@ -160,7 +161,7 @@ fn new_lot(lot: &Lot, product: Option<Product>, overlaps: bool, lots: u64) -> De
     }
 }
 
-/// The decision on a batch file.
+/// Decides an import of the batch file `raw`.
 #[tactic(auto, unfolding(job_facts::specs::Steps::step))]
 pub(crate) fn import<'a, S: JobStore>(
     alloc: Global,
@@ -190,7 +191,8 @@ pub(crate) fn import<'a, S: JobStore>(
     }
 }
 
-// By the batch that is kept under its name, whether it has these bytes, and its size.
+// Decides from `kept`, the stored batch with the same name, whether its file is the `same`, and its
+// size.
 #[tactic(auto, unfolding(job_facts::specs::Steps::step))]
 fn import_known(
     client: &Name,
@@ -219,7 +221,7 @@ fn import_known(
     }
 }
 
-// A batch under a new name.
+// Decides on a batch with a new name. `under` is its product, and `batches` the number of batches.
 fn new_batch<'a>(
     alloc: Global,
     batch: &Name,
@@ -243,7 +245,8 @@ fn new_batch<'a>(
     }
 }
 
-// By the totals of the batch file, or its first fault. The batch would have this number.
+// Decides from the totals of the batch file, or its first fault. `number` is the number of the new
+// batch.
 fn taken_in<'a>(
     alloc: Global,
     batch: &Name,

@@ -1,4 +1,4 @@
-//! The decisions on blanks, records and closing.
+//! The decisions on blanks and records, and on closing a batch.
 ghost use Rattle.std.specs.Prelude.{◌≡◌, ℕ, List};
 ghost use Rattle.job_facts.specs.Facts.{Facts};
 ghost use Rattle.job_facts.specs.Handing.{IsOpenBatch, IsOpenRecord};
@@ -14,7 +14,7 @@ use super::{Decision, refused};
 use job_facts::{BatchRow, Change, JobStore, Lot, RecordState, Refusal, Reply, StoreFault};
 use store_data::Name;
 
-/// The decision on a discard.
+/// Decides a `discard` request.
 pub(crate) fn discard<S: JobStore>(
     store: &mut S,
     client: &Name,
@@ -30,7 +30,7 @@ pub(crate) fn discard<S: JobStore>(
     Ok(discard_by(client, blank, lot, charged))
 }
 
-// By the blank's lot, and whether it is charged.
+// Decides from the lot of the blank, and whether the blank is charged.
 #[tactic(auto, unfolding(job_facts::specs::Steps::step))]
 fn discard_by(client: &Name, blank: u64, lot: Option<Lot>, charged: bool) -> Decision<'static>
     ensures { (f : Facts) → IsSound f → lot ≡ lot_of f.lots blank → charged ≡ is_charged f blank
@@ -43,7 +43,7 @@ fn discard_by(client: &Name, blank: u64, lot: Option<Lot>, charged: bool) -> Dec
     }
 }
 
-/// The decision on a remake.
+/// Decides a `remake` request.
 #[tactic(auto, unfolding(job_facts::specs::Steps::step))]
 pub(crate) fn remake<S: JobStore>(
     store: &mut S,
@@ -63,7 +63,7 @@ pub(crate) fn remake<S: JobStore>(
     }
 }
 
-// By the state of the record.
+// Decides from the state of the record.
 #[tactic(auto, unfolding(job_facts::specs::Steps::step))]
 fn remake_by(client: &Name, batch: &Name, rec: &Name, stands: RecordState) -> Decision<'static>
     ensures { (f : Facts) → IsSound f → IsOpenRecord f batch.now rec.now (Ok stands)
@@ -79,7 +79,7 @@ fn remake_by(client: &Name, batch: &Name, rec: &Name, stands: RecordState) -> De
     }
 }
 
-/// The decision on a withdrawal.
+/// Decides a `withdraw` request.
 #[tactic(auto, unfolding(job_facts::specs::Steps::step))]
 pub(crate) fn withdraw<S: JobStore>(
     store: &mut S,
@@ -99,7 +99,7 @@ pub(crate) fn withdraw<S: JobStore>(
     }
 }
 
-// By the state of the record.
+// Decides from the state of the record.
 #[tactic(auto, unfolding(job_facts::specs::Steps::step))]
 fn withdraw_by(client: &Name, batch: &Name, rec: &Name, stands: RecordState) -> Decision<'static>
     ensures { (f : Facts) → IsSound f → IsOpenRecord f batch.now rec.now (Ok stands)
@@ -127,7 +127,8 @@ fn discarded(blank: u64, lot: Name) -> Decision<'static>
     (Reply::Discarded { blank }, Change::Discards { blank, lot })
 }
 
-// The state of a record of a batch that is not closed, or the refusal, as the store has them.
+// Reads the state of the record `rec`. Returns a refusal if the batch or the record doesn't exist,
+// or the batch is closed.
 fn record_at<S: JobStore>(
     store: &mut S,
     batch: &Name,
@@ -143,7 +144,7 @@ fn record_at<S: JobStore>(
     Ok(in_record(row, stands))
 }
 
-// By the batch's row, and the state of the record.
+// Returns the state of a record from the row of its batch and its state in the store, or a refusal.
 fn in_record(row: Option<BatchRow>, stands: Option<RecordState>) -> Result<RecordState, Refusal>
     ensures { (f : Facts) (b r : List ℕ) → row ≡ batch_row_of f b → stands ≡ record_state_of f b r
         → IsOpenRecord f b r result }
@@ -152,7 +153,7 @@ fn in_record(row: Option<BatchRow>, stands: Option<RecordState>) -> Result<Recor
     stands.ok_or(Refusal::RecordUnknown)
 }
 
-/// The row of a batch that is not closed, or the refusal.
+/// Returns the row of a batch, or a refusal if the batch doesn't exist or is closed.
 pub(crate) fn in_batch(row: Option<BatchRow>) -> Result<BatchRow, Refusal>
     ensures { (f : Facts) (b : List ℕ) → row ≡ batch_row_of f b → IsOpenBatch f b result }
 {
@@ -163,7 +164,7 @@ pub(crate) fn in_batch(row: Option<BatchRow>) -> Result<BatchRow, Refusal>
     }
 }
 
-/// The decision on closing a batch.
+/// Decides a `close` request.
 pub(crate) fn close<S: JobStore>(
     store: &mut S,
     client: &Name,
@@ -179,7 +180,7 @@ pub(crate) fn close<S: JobStore>(
     Ok(close_by(client, batch, row, finished))
 }
 
-// By the batch, and whether each record of it is good or withdrawn.
+// Decides from the row of the batch, and whether all of its records are good or withdrawn.
 #[tactic(auto, unfolding(job_facts::specs::Steps::step))]
 fn close_by(client: &Name, batch: &Name, row: Option<BatchRow>, finished: bool) -> Decision<'static>
     ensures { (f : Facts) → IsSound f → row ≡ batch_row_of f batch.now

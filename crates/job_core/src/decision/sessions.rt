@@ -30,7 +30,7 @@ use job_facts::{
 use std::alloc::Global;
 use store_data::{Bytes, Class, Cursor, Name, class, laws};
 
-/// The decision on giving up a session.
+/// Decides an `abort` request.
 pub(crate) fn abort<S: JobStore>(
     store: &mut S,
     client: &Name,
@@ -45,7 +45,7 @@ pub(crate) fn abort<S: JobStore>(
     Ok(abort_by(client, session, row))
 }
 
-// By the session.
+// Decides from the row of the session.
 #[tactic(auto, unfolding(job_facts::specs::Steps::step))]
 fn abort_by(client: &Name, session: u64, row: Option<SessionRow>) -> Decision<'static>
     ensures { (f : Facts) → IsSound f → row ≡ session_row_of f session
@@ -57,7 +57,8 @@ fn abort_by(client: &Name, session: u64, row: Option<SessionRow>) -> Decision<'s
     }
 }
 
-// The row of a session that is the client's and runs, or the refusal.
+// Returns the row of a session. Returns a refusal if the session doesn't exist, belongs to another
+// client, or isn't running.
 fn running(client: &Name, session: u64, row: Option<SessionRow>) -> Result<SessionRow, Refusal>
     ensures is { (f : Facts) → row ≡ session_row_of f session
         → IsRunning f client.now session result }
@@ -72,7 +73,7 @@ fn running(client: &Name, session: u64, row: Option<SessionRow>) -> Result<Sessi
     }
 }
 
-/// The decision on giving up whatever session of the client runs.
+/// Decides a `reset` request, which ends the running session of the client.
 pub(crate) fn reset<S: JobStore>(
     store: &mut S,
     client: &Name,
@@ -86,7 +87,7 @@ pub(crate) fn reset<S: JobStore>(
     Ok(reset_by(client, session))
 }
 
-// By the running session.
+// Decides from the number of the running session.
 #[tactic(auto, unfolding(job_facts::specs::Steps::step))]
 fn reset_by(client: &Name, session: Option<u64>) -> Decision<'static>
     ensures { (f : Facts) → IsSound f → session ≡ running_session f client.now
@@ -99,7 +100,7 @@ fn reset_by(client: &Name, session: Option<u64>) -> Decision<'static>
 }
 
 #[tactic(auto, unfolding(job_facts::specs::Steps::step))]
-/// The decision on an opening.
+/// Decides an `open` request.
 pub(crate) fn open<S: JobStore>(
     alloc: Global,
     store: &mut S,
@@ -124,8 +125,9 @@ pub(crate) fn open<S: JobStore>(
     }
 }
 
-// The record that is opened and its blank's lot, or the reply in place of that: by the batch, the
-// client's running session, the blank's lot and charge, and the first waiting record.
+// Returns the record of the new session and the lot of its blank, or the reply if no session can be
+// opened. Decides from the row of the batch, the running session of the client (`busy`), the lot of
+// the blank and whether it is charged, and the first waiting record.
 fn to_open(
     client: &Name,
     batch: &Name,
@@ -160,7 +162,7 @@ fn to_open(
     Err(Reply::Refused { refusal })
 }
 
-// The record is opened, with its first command.
+// Opens a session for the record in `opens`, and reads its first command.
 fn opening<S: JobStore>(
     alloc: Global,
     store: &mut S,
@@ -182,7 +184,7 @@ fn opening<S: JobStore>(
     Ok(opened(alloc, client, batch, blank, rec, lot, session, command))
 }
 
-// A record is opened, and its first command handed out.
+// Returns the reply with the first command, and the change that opens the session.
 fn opened(
     alloc: Global,
     client: &Name,
@@ -233,7 +235,7 @@ fn bytes_or_none(alloc: Global, command: Option<Bytes>) -> Bytes
 }
 
 #[tactic(auto, unfolding(job_facts::specs::Steps::step))]
-/// The decision on a status word.
+/// Decides an `answer` request.
 pub(crate) fn answer<S: JobStore>(
     alloc: Global,
     store: &mut S,
@@ -258,7 +260,7 @@ pub(crate) fn answer<S: JobStore>(
     taking_word(alloc, store, session, &row, index, sw)
 }
 
-// The word is added to a running session, whose next command it is for.
+// Adds to a running session the status word for the command sent last.
 fn taking_word<S: JobStore>(
     alloc: Global,
     store: &mut S,
@@ -281,7 +283,8 @@ fn taking_word<S: JobStore>(
     Ok(took_word(session, row, index, sw, next, command))
 }
 
-// The command at the next cursor, if there is one. The segment of the last command is at hand.
+// Returns the command at the cursor `next`, or `None` if the session ends. The segment of the
+// previous command has already been read, and is used if the next command is in it.
 fn next_command<S: JobStore>(
     alloc: Global,
     store: &mut S,
@@ -309,7 +312,8 @@ fn next_command<S: JobStore>(
     }
 }
 
-// Where the card stands after this word for the command at the cursor, if it goes.
+// Returns the cursor after the status word `sw` for the command at `cursor`, or `None` if `sw`
+// spoils the session.
 fn after_word(cursor: &Cursor, segment: &Option<SegmentRow>, sw: u16) -> Option<Cursor>
     requires { IsCursor cursor.now }
     ensures { (plan : Plan) (k : ℕ) → IsPlan plan → cursor_at plan k ≡ Some cursor.now
@@ -333,7 +337,7 @@ fn after_word(cursor: &Cursor, segment: &Option<SegmentRow>, sw: u16) -> Option<
     }
 }
 
-// A word is added: the session is spoiled, goes on with its next command, or is good.
+// Adds a status word. The session is then spoiled, continues with its next command, or is good.
 fn took_word(
     session: u64,
     row: &SessionRow,
@@ -367,7 +371,8 @@ fn took_word(
     }
 }
 
-// The word is added to the session of this row, which stands so then.
+// Returns `reply`, and the change that adds the status word `word` to the session of `row`, whose
+// state is then `stands`.
 fn adds_word(
     row: &SessionRow,
     word: NewWord,

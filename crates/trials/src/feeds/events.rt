@@ -1,4 +1,4 @@
-//! Event lines of feeds over replies in memory, line by line.
+//! Tests of the event lines of feeds over replies in memory.
 use super::{NEXT, OPENED, PRINTED, RELEASED, REPLIES, RESET, Replies, STORAGE, reply};
 use crate::exchanges::name;
 use crate::failing_writers::Limited;
@@ -9,7 +9,7 @@ use std::process::Abort;
 use std::test::Fail;
 use store_data::Name;
 
-/// A refusal.
+/// A response with a refusal.
 macro_rules! refusal {
     ($length:literal, $body:literal) => {
         reply!("409 Conflict", $length, $body)
@@ -31,13 +31,13 @@ const NUMBER_RELEASED: &str = refusal!(
 
 const SPOILED: &str = reply!("200 OK", 32, r#"{"result":"spoiled","session":1}"#);
 
-// A connection on which nothing comes before its end.
+// A connection that ends without a response.
 const NOTHING: &str = "";
 
-// The most bytes of event lines in a test.
+// The maximum number of bytes of event lines in a test.
 const ROOM: usize = 512;
 
-// A feed of these lines, to which these replies come and then none.
+// A feed with the input `list` and these replies, followed by none, and its expected result.
 #[derive(Drop)]
 struct Case {
     list: &'static [u8],
@@ -47,7 +47,7 @@ struct Case {
     events: &'static [u8],
 }
 
-// A feed of no card, which ends when the machine is reset.
+// Returns a feed without a card, which ends after the machine is reset.
 fn idle(replies: &'static [&'static str], events: &'static [u8]) -> Case {
     Case {
         list: b"",
@@ -58,7 +58,7 @@ fn idle(replies: &'static [&'static str], events: &'static [u8]) -> Case {
     }
 }
 
-// A feed of one card, which is rejected.
+// Returns a feed of one card, which is rejected.
 fn rejected(replies: &'static [&'static str], events: &'static [u8]) -> Case {
     Case {
         list: b"1000\n",
@@ -69,7 +69,7 @@ fn rejected(replies: &'static [&'static str], events: &'static [u8]) -> Case {
     }
 }
 
-// A feed that a bad line ends.
+// Returns a feed that a bad line ends.
 fn stopped(
     list: &'static [u8],
     replies: &'static [&'static str],
@@ -85,7 +85,7 @@ fn stopped(
     }
 }
 
-// How a feed ended, what it printed, and its event lines.
+// The result of a feed, with its output and its event lines.
 #[derive(Drop)]
 struct Fed {
     end: Result<(), FeedStop>,
@@ -93,7 +93,8 @@ struct Fed {
     events: Limited,
 }
 
-// A feed with boot 1, whose event lines have so much room and are taken a byte a call.
+// Runs a feed with boot number 1. The writer of event lines has room for `room` bytes and accepts
+// one byte per call.
 fn run(alloc: Global, machine: Name, case: &Case, level: Level, room: usize) -> Fed {
     let (replies, asked) = (case.replies, 0);
     let mut exchange = Replies {
@@ -122,8 +123,8 @@ fn run(alloc: Global, machine: Name, case: &Case, level: Level, room: usize) -> 
     }
 }
 
-// A feed ends and prints as it should, and these are its event lines. Where memory is refused it
-// stops, or a line is left out, and the next feed has all.
+// Checks the result, the output and the event lines of a feed. If an allocation fails, the feed
+// stops or leaves out a line. A second run must then be complete.
 fn check_at(
     rt: &impl Abort,
     machine: Name,
@@ -146,7 +147,7 @@ fn check_at(
     assert_eq!(rt; feed.events.taken(), events, "at {level:?}");
 }
 
-// A case at each level: where it is off no line is written.
+// Checks a case at each level. At level `Off` no line is written.
 fn check(rt: &impl Abort, alloc: Global, machine: Name, case: &Case) {
     for (level, events) in [
         (Level::Usual, case.events),
@@ -157,7 +158,6 @@ fn check(rt: &impl Abort, alloc: Global, machine: Name, case: &Case) {
     }
 }
 
-// Each of these cases at each level.
 fn check_each(rt: &impl Abort, alloc: Global, cases: &[Case]) -> Result<(), Fail> {
     let machine = name("m1")?;
     for case in cases {
@@ -166,7 +166,7 @@ fn check_each(rt: &impl Abort, alloc: Global, cases: &[Case]) -> Result<(), Fail
     Ok(())
 }
 
-// The replies of these tests, by what comes to the opening, whose number is 10000003.
+// The cases differ in the reply to the `open` request, whose request number is 10000003.
 #[test]
 fn a_refused_opening_has_its_number_and_code(rt: HostRuntime) -> Result<(), Fail> {
     let cases = [
@@ -178,7 +178,7 @@ fn a_refused_opening_has_its_number_and_code(rt: HostRuntime) -> Result<(), Fail
             &[RELEASED, RESET, BATCH_UNKNOWN],
             b"rejected serial=1000 number=10000003 code=56 name=batch-unknown\n",
         ),
-        // A session runs, which the next request resets.
+        // A session is running. The next request resets it.
         rejected(
             &[RELEASED, RESET, BUSY, RESET],
             b"rejected serial=1000 number=10000003 code=61 name=machine-busy\n",
@@ -190,7 +190,7 @@ fn a_refused_opening_has_its_number_and_code(rt: HostRuntime) -> Result<(), Fail
             printed: b"1000 rejected\n",
             events: b"rejected serial=1000 number=10000003 code=73 name=number-released\n",
         },
-        // Each card has a line of its own.
+        // Each card has its own line.
         Case {
             list: b"1000\n1001\n",
             replies: &[RELEASED, RESET, BATCH_UNKNOWN, BLANK_USED],
@@ -212,7 +212,7 @@ fn a_used_boot_is_noticed(rt: HostRuntime) -> Result<(), Fail> {
     Ok(())
 }
 
-// The word's number is the one behind the opening's.
+// The request numbers of `answer` requests follow the number of the `open` request.
 #[test]
 fn a_spoiled_card_has_its_cause(rt: HostRuntime) -> Result<(), Fail> {
     let (alloc, machine) = (rt.alloc(), name("m1")?);
@@ -242,12 +242,12 @@ fn a_try_that_changes_nothing_is_noticed(rt: HostRuntime) -> Result<(), Fail> {
             &[STORAGE, RELEASED, STORAGE, STORAGE, RESET],
             b"again number=10000001 tries=1 reply=\"HTTP/1.1 503 Service Unavailable\"\nagain number=10000002 tries=1 reply=\"HTTP/1.1 503 Service Unavailable\"\nagain number=10000002 tries=2 reply=\"HTTP/1.1 503 Service Unavailable\"\n",
         ),
-        // A connection that ends before its reply has none.
+        // A line has no `reply` if the connection ends before a response.
         idle(
             &[NOTHING, NOTHING, RELEASED, RESET],
             b"again number=10000001 tries=1\nagain number=10000001 tries=2\n",
         ),
-        // So has one that can't be had: ten are the most.
+        // It has no `reply` either if there is no connection. The feed stops after ten tries.
         Case {
             list: b"1000\n",
             replies: &[RELEASED],
@@ -255,7 +255,7 @@ fn a_try_that_changes_nothing_is_noticed(rt: HostRuntime) -> Result<(), Fail> {
             printed: b"",
             events: b"again number=10000002 tries=1\nagain number=10000002 tries=2\nagain number=10000002 tries=3\nagain number=10000002 tries=4\nagain number=10000002 tries=5\nagain number=10000002 tries=6\nagain number=10000002 tries=7\nagain number=10000002 tries=8\nagain number=10000002 tries=9\nagain number=10000002 tries=10\n",
         },
-        // A reply to another call is none.
+        // A reply that doesn't match the request has no effect.
         idle(
             &[NUMBER_REUSED, RELEASED, RESET],
             b"again number=10000001 tries=1 reply=\"HTTP/1.1 409 Conflict\"\n",
@@ -298,8 +298,8 @@ fn a_first_line_is_escaped_and_short(rt: HostRuntime) -> Result<(), Fail> {
     check_each(&rt, rt.alloc(), &cases)
 }
 
-// Event lines of what is wrong with a list's second line, and such lists, whose first card gets
-// good.
+// Event lines about the second line of a list, each with lists that have this fault. The first card
+// of these lists gets good.
 static BAD_LINES: [(&[u8], &[&[u8]]); 5] = [
     (
         b"bad-line line=2 cause=empty\n",
@@ -374,7 +374,7 @@ fn lines_of_a_list_count_from_one(rt: HostRuntime) -> Result<(), Fail> {
     check_each(&rt, rt.alloc(), &cases)
 }
 
-// A writer of event lines that fails has their beginning, and the feed goes on.
+// If the writer of event lines fails, it has a prefix of them, and the feed continues.
 #[test]
 fn a_line_that_cannot_be_written_stops_nothing(rt: HostRuntime) -> Result<(), Fail> {
     let (alloc, machine) = (rt.alloc(), name("m1")?);

@@ -1,4 +1,4 @@
-//! Accounts and reports.
+//! Accounts and reports after a failed allocation.
 use crate::again::{MayBeOutOfMemory, at_last};
 use crate::exchanges::{REPORT, name, stocked};
 use crate::failing_writers::Limited;
@@ -12,7 +12,7 @@ const BATCH: &str =
 const BLANKS: &str =
     r#"{"charged":0,"discarded":0,"free":3,"good":0,"lots":1,"product":"P1","running":0,"spoiled":0,"total":3}"#;
 
-// Where memory was refused nothing is written.
+// A report that runs out of memory writes nothing.
 #[test]
 fn accounts_come_after_refused_memory(rt: HostRuntime) -> Result<(), Fail> {
     let alloc = rt.alloc();
@@ -25,7 +25,7 @@ fn accounts_come_after_refused_memory(rt: HostRuntime) -> Result<(), Fail> {
     let mut writer = Limited::new(512, 512);
     at_last!(close_report(alloc, &mut store, &batch, &mut writer))?;
     assert_eq!(rt; writer.taken(), REPORT.as_bytes());
-    // What is not there is refused.
+    // A batch or product that doesn't exist is refused.
     let (batch, product) = (name("B9")?, name("P9")?);
     let unknown = AccountFault::Refused(Refusal::BatchUnknown);
     let wanted = at_last!(batch_counts(alloc, &mut store, &batch));

@@ -1,4 +1,4 @@
-//! Groupings, batch files, plans and what is printed.
+//! Groupings, batch files, plans and printed plans after a failed allocation.
 ghost use Rattle.std.specs.Prelude.{IfOk};
 ghost use Rattle.store_data.specs.Sequence.{AreRows, IsProduct};
 
@@ -23,7 +23,7 @@ fn a_grouping_comes_after_refused_memory(rt: HostRuntime) -> Result<(), Fail> {
     Ok(())
 }
 
-// Whether these are the rows of the file.
+// Returns `true` if `rows` are the rows of `FILE`.
 fn are_of_the_file(rows: &[Row]) -> bool {
     let [first, second, third] = rows else {
         return false;
@@ -36,7 +36,7 @@ fn are_of_the_file(rows: &[Row]) -> bool {
         && third.coded.as_slice() == [0x80, 0, 2, 1, 2].as_slice()
 }
 
-// The rows of the file by their records, if there is memory for them.
+// Returns the rows of `FILE`, one list for each record.
 fn by_record(alloc: Global, product: &Product) -> Result<Vec<Vec<Row>>, PlanStop>
     requires { IsProduct product.now }
 {
@@ -60,7 +60,7 @@ fn a_batch_is_read_after_refused_memory(rt: HostRuntime) -> Result<(), Fail> {
     Ok(())
 }
 
-// A reader of rows that was refused memory says so from then on.
+// After a failed allocation, a reader of rows returns `Memory` in every later call.
 #[test]
 fn rows_end_where_memory_is_refused(rt: HostRuntime) -> Result<(), Fail> {
     let product = product(255, 0, false)?;
@@ -78,7 +78,7 @@ fn rows_end_where_memory_is_refused(rt: HostRuntime) -> Result<(), Fail> {
     Ok(())
 }
 
-// The rows of one record, if there is memory for them.
+// Returns the rows of the record in `TWO_APPLICATIONS`.
 fn rows_of_one(alloc: Global, product: &Product) -> Result<Vec<Row>, ImportFault>
     requires { IsProduct product.now }
     ensures { IfOk result (λ rows. AreRows rows.items) }
@@ -96,7 +96,8 @@ fn one_record(alloc: Global, product: &Product) -> Result<Vec<Row>, ImportFault>
     }
 }
 
-// These rows of two applications have three commands and two.
+// Checks that the plan of these rows has five commands, three for one application and two for the
+// other.
 fn check_planned(
     rt: &impl Abort,
     alloc: Global,
@@ -120,7 +121,7 @@ fn a_plan_is_made_after_refused_memory(rt: HostRuntime) -> Result<(), Fail> {
     check_planned(&rt, rt.alloc(), rows.as_slice(), &product)
 }
 
-// Where memory was refused nothing is written.
+// A plan that runs out of memory prints nothing.
 #[test]
 fn a_plan_is_printed_after_refused_memory(rt: HostRuntime) -> Result<(), Fail> {
     let product = product(255, 0, false)?;

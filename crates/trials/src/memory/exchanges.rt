@@ -1,4 +1,4 @@
-//! A decision, and a list of arrivals.
+//! A decision, and a list of arrivals, after a failed allocation.
 ghost use Rattle.job_facts.specs.Requests.{IsArrival, IsRequest};
 
 use crate::again::{MayBeOutOfMemory, at_last};
@@ -15,7 +15,7 @@ use store_data::{Bytes, Name};
 const OPENED: &str =
     r#"{"batch":"B1","blank":1000,"command":"00A4040006F00000000101","index":0,"record":"R1","result":"command","session":1}"#;
 
-// The reply that is decided; the change is left out.
+// Returns the reply that `decide` returns, without the change.
 fn decided(
     alloc: Global,
     store: &mut ListStore,
@@ -28,7 +28,7 @@ fn decided(
     Ok(reply)
 }
 
-// A decision changes nothing, and its reply has its body.
+// A decision changes nothing, and its reply has the right body.
 #[test]
 fn a_decision_comes_after_refused_memory(rt: HostRuntime) -> Result<(), Fail> {
     let alloc = rt.alloc();
@@ -55,8 +55,8 @@ fn discard(alloc: Global, client: Name, blank: u64) -> Arrival
     }
 }
 
-// In one of two runs each arrival meets no refusal. Where the memory of the outcomes is refused,
-// none is handled.
+// At least one of the two runs decides all arrivals. If the list of outcomes can't be allocated, no
+// arrival is handled.
 #[test]
 fn a_list_is_handled_after_refused_memory(rt: HostRuntime) -> Result<(), Fail> {
     let alloc = rt.alloc();

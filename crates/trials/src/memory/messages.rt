@@ -1,4 +1,4 @@
-//! Messages by each of their routes, the texts of requests, and replies read back.
+//! Messages for each route, the texts of requests, and parsed replies after a failed allocation.
 ghost use Rattle.wire.specs.Sending.{IsSendable};
 
 use crate::again::{MayBeOutOfMemory, at_last};
@@ -10,7 +10,7 @@ use std::test::Fail;
 use store_data::Bytes;
 use wire::{AskFault, FixedReply, Method, parse_reply, request_text};
 
-// Messages, and why they are refused.
+// Messages, each with the reason why it is refused, if it is.
 static MESSAGES: [(&[u8], Option<FixedReply>); 9] = [
     (
         b"POST /c/m1/1 HTTP/1.1\r\nContent-Length: 14\r\n\r\n{\"do\":\"reset\"}",
@@ -46,7 +46,7 @@ fn messages_are_taken_after_refused_memory(rt: HostRuntime) {
     }
 }
 
-// A call of `office` under number 1 is sent so.
+// Checks that a call of `office` under number 1 is sent as `text`.
 fn check_sent(rt: &impl Abort, alloc: Global, call: &Call, text: &str) -> Result<(), Fail>
     requires { IsSendable call.now }
 {
@@ -99,7 +99,7 @@ fn replies_are_read_after_refused_memory(rt: HostRuntime) -> Result<(), Fail> {
     }
     let found = at_last!(parse_reply(alloc, BUSY))?;
     assert!(rt; matches!(&found, Some(Reply::Busy { session: 1 })));
-    // A byte is lacking.
+    // The last byte is missing.
     let found = at_last!(parse_reply(alloc, &BUSY[..BUSY.len() - 1]))?;
     assert!(rt; found.is_none());
     Ok(())

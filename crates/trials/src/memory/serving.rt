@@ -1,4 +1,4 @@
-//! Connections and drills.
+//! Connections and drills after a failed allocation.
 use crate::again::{MayBeOutOfMemory, at_last};
 use crate::exchanges::{UNAVAILABLE, inputs};
 use crate::failing_writers::Limited;
@@ -16,12 +16,12 @@ const PRODUCT: &[u8] =
 const CREATED: &[u8] =
     b"HTTP/1.1 200 OK\r\nContent-Type: application/json\r\nContent-Length: 35\r\nConnection: close\r\n\r\n{\"product\":\"P1\",\"result\":\"created\"}";
 
-// The reply where a message was decided, and where memory for it was refused.
+// Returns the response to `PRODUCT`: `CREATED` if the message was decided, otherwise `UNAVAILABLE`.
 fn reply_of(served: Served) -> &'static [u8] {
     if served.decided { CREATED } else { UNAVAILABLE }
 }
 
-// One message of three gets 503 at most, and each other one its reply.
+// At most one of three messages gets 503, and the others get their reply.
 #[test]
 fn refused_memory_is_answered_503(rt: HostRuntime) {
     let mut store = ListStore::new(rt.alloc());
@@ -41,7 +41,8 @@ fn refused_memory_is_answered_503(rt: HostRuntime) {
     assert!(rt; decided >= 2);
 }
 
-// A connection in memory got its reply, or a beginning of it where memory for that was refused.
+// Checks that a connection in memory got its response, or a prefix of it if the allocation for it
+// failed.
 fn check_replied(rt: &impl Abort, replied: &Replied) {
     let written = replied.written.as_slice();
     match replied.served.end {
@@ -51,7 +52,7 @@ fn check_replied(rt: &impl Abort, replied: &Replied) {
     }
 }
 
-// Whether one of two messages is answered by what was decided.
+// Returns `true` if at least one of two messages was decided.
 fn is_decided(rt: &impl Abort, alloc: Global) -> Result<bool, NextFault> {
     let inputs = inputs(alloc, &[PRODUCT, PRODUCT])?;
     let (_, connections) = serve_inputs(alloc, inputs, 7, 2)?;
@@ -84,8 +85,8 @@ fn lines_in(printed: &[u8]) -> usize {
     printed.iter().filter(|byte| **byte == b'\n').count()
 }
 
-// How many of the lines that a drill printed report refused memory; each other line says what it
-// must.
+// Returns the number of lines of a drill that report a failed allocation. Checks that all other
+// lines are right.
 fn unavailable(rt: &impl Abort, printed: &[u8]) -> usize {
     let mut count = 0usize;
     let mut rest = printed;
@@ -105,8 +106,8 @@ fn unavailable(rt: &impl Abort, printed: &[u8]) -> usize {
     count
 }
 
-// Where memory is refused the lines before it are printed, or one message gets 503; a second drill
-// prints it all.
+// If an allocation fails, only the lines before it are printed, or one message gets 503. A second
+// drill prints all lines.
 #[test]
 fn refused_memory_is_no_half_drill(rt: HostRuntime) {
     for is_again in [false, true] {

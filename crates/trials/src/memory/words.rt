@@ -1,4 +1,4 @@
-//! Tests of the program's arguments where memory is refused.
+//! Arguments of the program after a failed allocation.
 use crate::words::read_at_last;
 use arguments::{Words, WordsFault};
 

@@ -13,7 +13,7 @@ returns-then-branch-clause-ok g c clean =
 pub returns-then-branch-clause-unchanged : goal.returns-then-branch-clause-unchanged
 returns-then-branch-clause-unchanged g c t is clean stand = only_read (state g.S.Store c.args.conn.now) (state g.S.Store c.stay_open.new.conn) c.stay_open.ensures.kept c.stay_open.ensures.survives clean
 
--- tables that stand as they are made can stay
+-- Tables that are as the store creates them need not be rebuilt.
 pub returns-clause-unchanged : goal.returns-clause-unchanged
 returns-clause-unchanged g c t is clean stand =
     let stay = c.in_ok-can_stay.ensures.1 (stand.0, (is.apart stand.0).1 stand.1) in

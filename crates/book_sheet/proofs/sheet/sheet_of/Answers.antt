@@ -6,7 +6,7 @@ use Rattle.table_rows.specs.Keys.{is_batch_named}
 use Rattle.table_rows.specs.Tables.{Tables}
 use Rattle.book_sheet.proofs.sheet.sheet_of.Goals as goal
 
--- the row that is found is one of the batches
+-- the row that was found is one of the batches
 pub sheet_text-requires-clause-there : goal.sheet_text-requires-clause-there
 sheet_text-requires-clause-there c =
     let batches = c.args.tables.now.batches in

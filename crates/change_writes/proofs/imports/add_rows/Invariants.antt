@@ -12,6 +12,6 @@ invariant-loop-stream g l = record {
   survives : Survives (state g.S.Store l.fn.tx.conn.now) (state g.S.Store l.tx.conn.now) (λ _. ⊥);
 }
 
--- a file has fewer than 4,097 rows
+-- A batch file has at most 4,096 data rows.
 abbrev pub decreases-loop-stream : goal.decreases-loop-stream
 decreases-loop-stream g l = 4098 - l.line

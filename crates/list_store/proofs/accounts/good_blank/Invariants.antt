@@ -4,7 +4,7 @@ use Rattle.job_facts.specs.States.{is_good, session_state}
 use Rattle.list_store.specs.Sessions.{sessions_of_record}
 use Rattle.list_store.proofs.accounts.good_blank.Given as goal
 
--- none of the record so far is good
+-- No session of the record before this one is good.
 abbrev pub invariant-loop-session : goal.invariant-loop-session
 invariant-loop-session l =
     find (λ s. is_good (session_state l.facts s)) (sessions_of_record (drop l.session-index l.sessions) l.batch l.rec)

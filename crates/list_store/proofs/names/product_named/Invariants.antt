@@ -2,6 +2,6 @@ use Rattle.std.proofs.Common.{◌≡◌, drop}
 use Rattle.job_facts.specs.States.{product_named}
 use Rattle.list_store.proofs.names.product_named.Given as goal
 
--- none so far is of the code
+-- No product before this one has the name.
 abbrev pub invariant-loop-known : goal.invariant-loop-known
 invariant-loop-known l = product_named (drop l.known-index l.products) l.code ≡ product_named l.products l.code

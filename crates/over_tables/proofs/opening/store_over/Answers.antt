@@ -8,7 +8,7 @@ use Rattle.over_tables.proofs.Stores.{opened_new, opened_over, refused_new, refu
 use Rattle.over_tables.proofs.opening.store_over.Goals as goal
 use Rattle.over_tables.proofs.opening.store_over.Goals.{then-begins, else-begins}
 
--- what holds of a value that is there
+-- a property of a successful result is true for its value
 at_ok : {A E : Type 0} (P : A → Type 0) (o : Result A E) (x : A) → o ≡ Ok x → IfOk o P → P x
 at_ok P o x is holds = subst (λ o. IfOk o P) is holds
 

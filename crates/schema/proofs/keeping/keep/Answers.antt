@@ -7,7 +7,7 @@ use Rattle.schema.proofs.Knowing.{knows_made, knows_unmade}
 use Rattle.schema.proofs.Taking.{change_ends, change_left}
 use Rattle.schema.proofs.keeping.keep.Goals as goal
 
--- ---- it is committed
+-- ---- the commit succeeds
 
 pub returns-in_ok-commit-in-Ok-clause-ok : goal.returns-in_ok-commit-in-Ok-clause-ok
 returns-in_ok-commit-in-Ok-clause-ok g c clean =
@@ -32,7 +32,7 @@ returns-in_ok-commit-in-Ok-clause-knows g c =
     knows_made c.in-Ok.writing kept mid (state g.S.Store c.commit.new.conn) c.args.known.now c.note_counters.new.known (knows_after old mid c.args.known.now c.writing_of.ensures.looks c.requires.knows)
     (λ clean. omega (arith, clean, c.commit.ensures.crash.clean)) (λ t known. c.note_counters.ensures t kept (c.forget_for.ensures.after t kept known)) c.in_ok-commit-in-Ok.ensures.ok
 
--- ---- it is not
+-- ---- the commit fails
 
 pub returns-in_err-commit-in-Ok-clause-crash : goal.returns-in_err-commit-in-Ok-clause-crash
 returns-in_err-commit-in-Ok-clause-crash g c =

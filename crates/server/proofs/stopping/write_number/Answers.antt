@@ -6,7 +6,7 @@ use Rattle.server.specs.declared.stopping.ServeStop.{ServeStop}
 use Rattle.server.specs.declared.stopping.ServeStop.TheVariants.{Memory}
 use Rattle.server.proofs.stopping.write_number.Goals as goal
 
--- where memory is refused, nothing was written
+-- if an allocation fails, nothing was written
 unwritten : (a : Option (List ℕ)) (text : List ℕ) (r : Result (Unit {0}) ServeStop) → IsErrAnd r (λ stop. stop ≡ Memory) → WritesLine a a text r
 unwritten a text (Ok u) failed = absurd failed
 unwritten a text (Err e) failed = subst (λ (stop : ServeStop). WritesLine a a text (Err stop)) (sym failed) (Keeps-refl a)

@@ -6,7 +6,7 @@ use Rattle.store_reads.proofs.Knowing.{knows_after, knows_more}
 use Rattle.store_reads.proofs.ReadContents.{looks_then}
 use Rattle.store_reads.proofs.segments.segment.Goals as goal
 
--- ---- a record that was known
+-- ---- a cached record
 
 pub returns-in_err-row-clause-knows : goal.returns-in_err-row-clause-knows
 returns-in_err-row-clause-knows g c =
@@ -27,7 +27,7 @@ pub note_standing-requires-clause-knows : goal.note_standing-requires-clause-kno
 note_standing-requires-clause-knows g c =
     knows_after (state g.S.Store c.args.conn.now) (state g.S.Store c.segment_of.new.conn) c.args.known.now c.segment_of.ensures.looks c.requires.knows
 
--- (a read says that the connection is open)
+-- only the read in `note_standing` shows that the connection is open
 pub returns-in-Some-clause-value : goal.returns-in-Some-clause-value
 returns-in-Some-clause-value g c clean =
     let mid = state g.S.Store c.segment_of.new.conn in
@@ -37,7 +37,7 @@ returns-in-Some-clause-value g c clean =
     mid c.segment_of.ensures.looks c.in-Some.ensures.known ((c.segment_of.ensures.looks.kept early).was_open (c.in_ok-note_standing.ensures.open clean)) early
     ((rw c.in_default-2.is at c.in_ok-row.ensures.value) early)
 
--- ---- a record that was not
+-- ---- a record that isn't cached
 
 pub returns-in_err-card-clause-knows : goal.returns-in_err-card-clause-knows
 returns-in_err-card-clause-knows g c =

@@ -32,7 +32,7 @@ look_in-requires-clause-head g c clean =
     let len : length c.read_at.new.buf ≡ 32 = search rules in
     sym (held_is_part log _ 0 32 (rw c.read_at.ensures.seen (c.in_ok-read_at.ensures.read clean (omega arith))) len)
 
--- the frames that a file of this length has lie within it
+-- The frames of a file of this length are within the file.
 frames_fit : (size len frames : ℕ) → frames ≡ (len - 32) / (24 + size) → 32 ≤ len → frame_at size frames ≤ len
 unfolding frames_len
 frames_fit size len frames is long = omega (arith, div-mul-le_self (len - 32) (24 + size), is, ap (λ (n : ℕ). n * (24 + size)) is)

@@ -11,7 +11,7 @@ use Rattle.job_facts.specs.Steps.{Outcome, new_batch, taken_in}
 use Rattle.batch_import.specs.Batch.{batch_of}
 use Rattle.job_core.proofs.decision.products.new_batch.Goals as goal
 
--- what is found under a code has it
+-- A product found by its code has this code.
 code_is : (products : List Product) (n : List ℕ) (p : Product) → product_named products n ≡ Some p → p.code ≡ n
 code_is [] n p found = absurd (none-some p found)
 code_is (q ∷ products) n p found = elim (cases_Bool (bytes_eq q.code n)) [

@@ -5,7 +5,7 @@ use Rattle.job_facts.specs.Rows.{session_row}
 use Rattle.job_facts.proofs.RunningLemmas.{good_word, next_word, spoiled_word}
 use Rattle.job_core.proofs.decision.sessions.took_word.Goals as goal
 
--- the row names the record of its session
+-- The row names the record of its session.
 of_batch : (f : Facts) (x : Session) (row : SessionRow) → row ≡ session_row f x → x.batch ≡ row.batch
 of_batch f x row is = ap (λ (r : SessionRow). r.batch) (sym is)
 

@@ -20,7 +20,8 @@ use Rattle.persod.specs.Tasks.{IsOpening, ServesFile, end_of_serve}
 use Rattle.persod.specs.declared.tasks.ServeTask.{ServeTask}
 use Rattle.persod.proofs.tasks.ServeTaskStoreTask.perform.Goals as goal
 
--- what a server over the tables promises, with the level that its event lines are given
+-- The contract of a server over tables gives the result of the task, which has the same port and
+-- the same level of event lines.
 served : (task : ServeTask) (found : Found) (old last : State) (whole : Type 0) (opened : Opened) (es : List Exchange) (result : Result (Unit {0}) ServeStop) (port : ℕ) (level : Level) (end : End)
     → IsOpening task found opened → ServesAll old last es → WritesLines whole (λ _. ⊤) port task.turns (length es) None None result → port ≡ task.port
     → NotesRun whole old last false opened es result level None None → level ≡ task.level → end ≡ end_of_serve result → ServesFile task found old last whole end

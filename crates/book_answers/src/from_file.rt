@@ -1,0 +1,45 @@
+//! Reads a database file and prints the reply to a subcommand of `shopbook`.
+ghost use Rattle.std.specs.Prelude.{◌≡◌, IfErr, IfOk};
+ghost use Rattle.book_answers.specs.Answers.{PrintsFile};
+
+use crate::printing::print_answer;
+use audit_rows::Rule;
+use book_arguments::BookWords;
+use book_file::book_in;
+use over_tables::FileFault;
+use sqlite_disk::Unknown;
+use std::io::Write;
+use subcommands::End;
+
+/// The result of printing from a database file that was read.
+#[derive(Drop)]
+pub struct Printed {
+    /// The end of the run.
+    pub end: End,
+    /// The first rule that the rows break, if they break one.
+    pub failing: Option<Rule>,
+}
+
+/// Reads and audits the database file that `words` names, and prints the reply to its subcommand to
+/// `writer`. The file is closed before anything is printed.
+///
+/// # Errors
+///
+/// Returns why the file isn't read. Nothing is printed then.
+pub fn print_from_file<W: Write>(
+    rt: &HostRuntime,
+    words: &BookWords,
+    writer: &mut W,
+) -> Result<Printed, FileFault>
+    ensures printed { IfOk result
+        (PrintsFile words.now (W.contents writer.old) (W.contents writer.new)) }
+    ensures refused { IfErr result (λ _. W.contents writer.new ≡ W.contents writer.old) }
+{
+    // Dropped here, so that the types of a store are dropped in no program.
+    let (read, files) = book_in(rt, words.db.as_str(), Unknown);
+    drop(files);
+    let book = read?;
+    let end = print_answer(rt.alloc(), words, &book, writer);
+    let failing = book.failing;
+    Ok(Printed { end, failing })
+}

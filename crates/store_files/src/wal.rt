@@ -1,0 +1,196 @@
+//! Opens the two files of a database, unless their WAL is damaged.
+ghost use Rattle.std.specs.Prelude.{◌≡◌, codes, true, false, None};
+ghost use Rattle.std.specs.Prelude.{IfErr, IfOk, IsErrAnd, IsTrue, OnOk};
+ghost use Rattle.sqlite.specs.FileStore.{view};
+ghost use Rattle.sqlite.specs.Files.{Finds, IsBlankAs, IsOpened, file_state, image_of};
+ghost use Rattle.sqlite.specs.Start.{FindsIn};
+ghost use Rattle.sqlite.specs.State.{HasCleanDisk};
+ghost use Rattle.sqlite.specs.WalFiles.{image_at};
+ghost use Rattle.sqlite.specs.WalReads.{AreClean, OnlyReads};
+ghost use Rattle.sqlite.specs.Opening.{is_open_error};
+ghost use Rattle.sqlite_std_file.specs.File.{IsFresh, file_is_usable};
+ghost use Rattle.wal_damage.specs.Damage.{lost_commits};
+ghost use Rattle.over_tables.specs.Refusals.{IsNotOurs};
+ghost use Rattle.store_files.specs.Files.{IsNotBegun};
+ghost use Rattle.store_files.specs.Wal.{FailsInGiven, IsOfLook, IsWholeWal, RefusesWal, opens_none};
+
+use crate::faults::unopened;
+use crate::place::{has_log, is_missing, names_no_file, place_of};
+use over_tables::{Cause, FileFault};
+use sqlite::{Connection, Error, ErrorCode, FileFrom, FileStore, Leftover, Options};
+use sqlite_disk::{Disk, Files, Start, Unknown};
+use sqlite_std_file::OpenError;
+use std::alloc::{AllocError, Global};
+use std::hash::{BuildHasher, RandomState};
+use std::io::ErrorKind;
+use wal_damage::{Look, LookFault, look_at};
+
+const NO_MEMORY: Error = Error::SqliteFailure(ErrorCode::OutOfMemory);
+
+const CANNOT_OPEN: Error = Error::SqliteFailure(ErrorCode::CannotOpen);
+
+/// Refuses two files that were just opened if their WAL still has durable commits after a damaged
+/// frame or a damaged header: SQLite's recovery would drop them silently. It writes nothing, reads
+/// the WAL once, and allocates memory for one frame.
+///
+/// # Errors
+///
+/// - `NotOurs` with the cause `DamagedWal`: the WAL has such commits.
+/// - `Storage`: a read fails.
+/// - `Memory`: an allocation fails.
+pub fn refuse_damaged<D: Disk>(alloc: Global, files: &mut Files<D>) -> Result<(), FileFault>
+    requires log_usable { IsTrue (D.Disk.is_usable files.old.log) }
+    requires db_usable { IsTrue (D.Disk.is_usable files.old.db) }
+    ensures whole { OnOk result (AreClean D.Disk files.new.log files.new.db
+        → lost_commits (D.Disk.seen files.old.db) (D.Disk.seen files.old.log) ≡ 0) }
+    ensures refused { IfErr result (RefusesWal (AreClean D.Disk files.new.log files.new.db)
+        (D.Disk.seen files.old.db) (D.Disk.seen files.old.log)) }
+    ensures log { OnlyReads D.Disk files.old.log files.new.log }
+    ensures db { OnlyReads D.Disk files.old.db files.new.db }
+{
+    match look_at(alloc, files) {
+        Ok(Look { lost: 0, .. }) => Ok(()),
+        Ok(Look { lost: commits, .. }) => {
+            let cause = Cause::DamagedWal { commits };
+            Err(FileFault::NotOurs { cause })
+        }
+        Err(LookFault::Failed) => Err(FileFault::Storage),
+        Err(LookFault::Memory) => Err(FileFault::Memory),
+    }
+}
+
+/// Checks the two files at `path` with `refuse_damaged`, and closes them. SQLite opens neither, and
+/// neither is created. Returns `Ok` if the file doesn't exist or has no WAL with frames.
+///
+/// # Errors
+///
+/// Returns the fault of `refuse_damaged`, or the reason why the two files can't be opened.
+pub fn refuse_damaged_at(rt: &HostRuntime, path: &str) -> Result<(), FileFault>
+    ensures { IfErr result IsOfLook }
+{
+    match has_both(rt, path) {
+        Ok(true) => refuse_opened(rt, path),
+        Ok(false) => Ok(()),
+        Err(AllocError) => Err(FileFault::Memory),
+    }
+}
+
+/// Returns `true` if the WAL of the file at `path` looks damaged and was written only by another
+/// program. Such a file isn't refused. Returns `false` if the two files can't be opened or read.
+pub fn has_suspect_wal(rt: &HostRuntime, path: &str) -> bool {
+    match has_both(rt, path) {
+        Ok(true) => is_suspect(rt, path),
+        _ => false,
+    }
+}
+
+// Returns `true` if the file at `path` exists and has a WAL with frames. Opening both then creates
+// neither.
+fn has_both(rt: &HostRuntime, path: &str) -> Result<bool, AllocError> {
+    Ok(!is_missing(rt, path)? && has_log(rt, path)?)
+}
+
+fn refuse_opened(rt: &HostRuntime, path: &str) -> Result<(), FileFault>
+    ensures { IfErr result IsOfLook }
+{
+    match files_at(rt, path, Unknown) {
+        Ok(mut files) => refuse_damaged(rt.alloc(), &mut files),
+        Err(error) => Err(unopened(error, place_of(rt, path))),
+    }
+}
+
+fn is_suspect(rt: &HostRuntime, path: &str) -> bool {
+    match files_at(rt, path, Unknown) {
+        Ok(mut files) => match look_at(rt.alloc(), &mut files) {
+            Ok(look) => look.is_suspect,
+            Err(_) => false,
+        },
+        Err(_) => false,
+    }
+}
+
+// Opens the database in the file at `path`, unless its WAL is damaged. Both files are locked from
+// before the WAL is read until they are closed.
+pub(crate) fn open_whole<S: Start>(
+    rt: &HostRuntime,
+    path: &str,
+    start: S,
+) -> Result<Connection<FileStore<FileFrom<S>>>, FileFault>
+    ensures memory { path.now ≡ codes ":memory:" → IsErrAnd result IsNotOurs }
+    ensures opened { IfOk result (λ conn. HasCleanDisk (file_state conn) → IsOpened conn) }
+    ensures found { IfOk result (λ conn. HasCleanDisk (file_state conn)
+        → FindsIn (image_at S.Start) (file_state conn)) }
+    ensures whole { IfOk result (λ conn. HasCleanDisk (file_state conn)
+        → IsWholeWal (image_at S.Start)) }
+    ensures sums { IfOk result (λ conn. HasCleanDisk (file_state conn)
+        → IsBlankAs false (image_at S.Start) → (view conn.store).has_sums ≡ false) }
+    ensures idle { IfOk result (λ conn. conn.in_transaction ≡ false) }
+    ensures failed { IfErr result
+        (IsNotBegun ⟦<FileFrom<S> as Disk>⟧ (image_at S.Start) IsFresh) }
+{
+    let mut files = match files_at(rt, path, start) {
+        Ok(files) => files,
+        Err(error) => return Err(unopened(error, place_of(rt, path))),
+    };
+    if let Err(fault) = refuse_damaged(rt.alloc(), &mut files) {
+        return Err(fault);
+    }
+    match open_in(rt, files) {
+        Ok(conn) => Ok(conn),
+        Err((error, left)) => {
+            drop(left);
+            Err(unopened(error, place_of(rt, path)))
+        }
+    }
+}
+
+// Opens the database in two files that are already open.
+fn open_in<D: Disk + Drop>(
+    rt: &HostRuntime,
+    files: Files<D>,
+) -> Result<Connection<FileStore<D>>, (Error, Option<Leftover<D>>)>
+    requires log { IsTrue (D.Disk.is_usable files.log) }
+    requires db { IsTrue (D.Disk.is_usable files.db) }
+    ensures opened { IfOk result (λ conn. HasCleanDisk (file_state conn) → IsOpened conn) }
+    ensures found { IfOk result (λ conn. HasCleanDisk (file_state conn) → Finds files conn) }
+    ensures sums { IfOk result (λ conn. HasCleanDisk (file_state conn)
+        → IsBlankAs false (image_of D.Disk files) → (view conn.store).has_sums ≡ false) }
+    ensures idle { IfOk result (λ conn. conn.in_transaction ≡ false) }
+    ensures named { IfErr result (λ e. IsTrue (is_open_error e.0)) }
+    ensures none { IfErr result (λ e. e.1 ≡ None → IsTrue (opens_none e.0)) }
+    ensures some { IfErr result (λ e. FailsInGiven files e.0 e.1) }
+{
+    let Ok(seeds) = RandomState::new(rt) else {
+        return Err((CANNOT_OPEN, None));
+    };
+    let options = Options::new(seeds.hash_one(&0u8));
+    match Connection::open_files(rt.alloc(), files, options) {
+        Ok(mut conn) => {
+            conn.set_clock(rt);
+            Ok(conn)
+        }
+        Err((error, left)) => Err((error, Some(left))),
+    }
+}
+
+// Opens and locks the two files at `path`, with the errors of `Connection::open_from`.
+fn files_at<S: Start>(rt: &HostRuntime, path: &str, start: S) -> Result<Files<FileFrom<S>>, Error>
+    ensures memory { path.now ≡ codes ":memory:" → IsErrAnd result
+        (λ e. e ≡ Error.SqliteFailure ErrorCode.CannotOpen) }
+    ensures log { IfOk result (λ files. IsTrue (file_is_usable S.Start files.log)) }
+    ensures db { IfOk result (λ files. IsTrue (file_is_usable S.Start files.db)) }
+    ensures fresh { IfOk result (λ files. IsFresh true files.log × IsFresh false files.db) }
+    ensures none { IfErr result (λ e. IsTrue (opens_none e)) }
+    ensures named { IfErr result (λ e. IsTrue (is_open_error e)) }
+{
+    if names_no_file(path) {
+        return Err(CANNOT_OPEN);
+    }
+    match sqlite_std_file::open(rt, path, start) {
+        Ok(files) => Ok(files),
+        Err(OpenError::OutOfMemory) => Err(NO_MEMORY),
+        Err(OpenError::Busy) => Err(Error::SqliteFailure(ErrorCode::DatabaseBusy)),
+        Err(OpenError::Io(error)) if error.kind() == ErrorKind::OutOfMemory => Err(NO_MEMORY),
+        Err(_) => Err(CANNOT_OPEN),
+    }
+}
