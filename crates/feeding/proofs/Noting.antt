@@ -1,15 +1,13 @@
 -- Event lines that are written one after another.
-use Rattle.std.proofs.Common.{◌≡◌, ◌≢◌, ◌<◌, ◌+◌, ◌==◌, true, false, ℕ, Bool, Bor, List, [], ◌∷◌, ◌++◌, length, map, take, drop, get_or, append_assoc, min, Option, Some, None, Result, Ok, Err, IfOk, refl, sym, ap, subst, ◌∙◌, append-nil, arith, inl, inr, ◌≤◌}
-use Rattle.std.specs.Prelude.{◌↔◌, IfErr, IsTrue, if◌then◌else◌, nat_lt, option_map, position, unwrap_or}
+use Rattle.std.proofs.Common.{◌≡◌, ◌≢◌, ◌<◌, ◌+◌, ◌==◌, true, false, ℕ, Bool, Bor, List, [], ◌∷◌, ◌++◌, length, map, take, drop, get_or, append_assoc, min, Option, Some, None, Result, IfOk, refl, sym, ap, subst, ◌∙◌, append-nil, arith, inl, inr, ◌≤◌}
+use Rattle.std.specs.Prelude.{◌↔◌, IsTrue, if◌then◌else◌, nat_lt, option_map, position, unwrap_or}
 use Rattle.std.specs.List.{before_first, position_or_len}
 use Rattle.std.proofs.lemmas.Bool.{cases_lt, cond_both, eq-eqb, ltb-false, ne_eqb}
 use Rattle.std.proofs.lemmas.Option.{same_Some}
 use Rattle.std.proofs.lemmas.List.{get_or_default, length-take, take-take, take_all}
 use Rattle.std.specs.Prelude.{Vec}
 use Rattle.std.specs.Global.{Global}
-use Rattle.std.specs.Io.KnownBytes.{Appends, Keeps}
-use Rattle.std.proofs.KnownBytes.{Appends-nil, Keeps-refl, Keeps-trans}
-use Rattle.text_io.specs.Written.{AppendsBeginning, line}
+use Rattle.std.proofs.KnownBytes.{Keeps-refl}
 use Rattle.job_facts.specs.declared.reply.Reply.{Reply}
 use Rattle.feeding.specs.declared.engine.Response.{Response}
 use Rattle.feeding.specs.declared.feed.Rejected.{Rejected}

@@ -1,5 +1,5 @@
 -- Lemmas about the progress of a message, and about further bytes.
-use Rattle.std.proofs.Common.{◌≡◌, ℕ, zero, suc, ◌+◌, ◌-◌, ◌<◌, ◌≤◌, Bool, true, false, cond, List, [], ◌∷◌, ◌++◌, length, take, drop, Option, Some, None, Result, Ok, Err, inl, inr, refl, sym, ap, subst, ◌∙◌, arith, append-nil, length-take-le}
+use Rattle.std.proofs.Common.{◌≡◌, ℕ, zero, suc, ◌+◌, ◌-◌, ◌<◌, ◌≤◌, Bool, true, false, cond, List, [], ◌∷◌, ◌++◌, length, take, drop, Option, Some, None, Result, Ok, Err, inl, inr, refl, sym, ap, subst, ◌∙◌, arith, length-take-le}
 use Rattle.std.specs.Prelude.{nat_le, nat_lt, not, ◌&&◌, filter, map}
 use Rattle.std.specs.Char.{is_ascii_digit}
 use Rattle.std.specs.List.{list_all, list_any}
@@ -14,7 +14,7 @@ use Rattle.httparse.specs.Spans.{name_and_value}
 use Rattle.text_io.specs.Inputs.{most_input}
 use Rattle.http_messages.specs.declared.fixed.FixedReply.{FixedReply}
 use Rattle.http_messages.specs.declared.fixed.FixedReply.TheVariants.{HeadTooLarge, Malformed, TooLarge}
-use Rattle.http_messages.specs.Heads.{HeadParts, IsJudged, Pair, body_size, ends_head, has_bare_lf, head_end, is_named, least, pairs, parts_of, size_in, size_text, sized}
+use Rattle.http_messages.specs.Heads.{HeadParts, IsJudged, Pair, body_size, ends_head, has_bare_lf, head_end, is_named, least, pairs, size_in, size_text, sized}
 use Rattle.http_messages.specs.Messages.{Brings, Broken, Heard, IsHeardAs, IsHeardBy, MessageParts, Refused, after_head, end_of_head}
 use Rattle.http_messages.specs.Progresses.{HasLength}
 use Rattle.http_messages.proofs.AloneLemmas.{heard_as}

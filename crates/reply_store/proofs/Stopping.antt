@@ -1,6 +1,6 @@
 -- Lemmas about a crash during an arrival, about opening the store afterwards, and about lists with
 -- such crashes.
-use Rattle.std.proofs.Common.{◌≡◌, ◌⊎◌, Bool, List, [], ◌∷◌, ◌++◌, true, false, Option, Some, Result, Ok, inl, inr, refl, sym, subst, append-nil, append_assoc}
+use Rattle.std.proofs.Common.{◌≡◌, ◌⊎◌, Bool, List, [], ◌∷◌, ◌++◌, true, false, Some, Ok, inl, inr, refl, sym, subst, append-nil, append_assoc}
 use Rattle.job_facts.specs.Contents.{AreSame, AreSound, Contents}
 use Rattle.job_facts.specs.Reopening.{FindsEither, OpensAfter, OpensWith, OpensWithEither}
 use Rattle.job_facts.specs.Store.{IsFound, IsHonest, State}

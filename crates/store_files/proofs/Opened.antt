@@ -1,11 +1,10 @@
 -- Lemmas: a database that SQLite opens, or fails to open, in two files whose WAL was examined
 -- before.
-use Rattle.std.proofs.Common.{◌≡◌, ◌∙◌, ap₂, cond, refl, sym, subst, ℕ, Bool, true, false, IsTrue, List, Option, Some, None}
-use Rattle.sqlite.specs.Files.{FailsToOpenFiles, Finds, IsCleanLeft, LeavesFiles, file_state, image_of}
+use Rattle.std.proofs.Common.{◌≡◌, ap₂, cond, subst, ℕ, Bool, true, false, IsTrue, List, Option, Some, None}
+use Rattle.sqlite.specs.Files.{Finds, file_state, image_of}
 use Rattle.sqlite.specs.Held.{Held}
 use Rattle.sqlite.specs.Recovery.{Image}
 use Rattle.sqlite.specs.Start.{FindsIn}
-use Rattle.sqlite.specs.State.{HasCleanDisk}
 use Rattle.sqlite.specs.WalReads.{AreClean, OnlyReads}
 use Rattle.sqlite.specs.declared.FileStore.{FileStore}
 use Rattle.sqlite_disk.specs.Events.{Event, replay}

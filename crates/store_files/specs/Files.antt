@@ -1,6 +1,6 @@
 -- The effect of `with_store` on the database file at a path: its task ran over the store, or the
 -- fault says why it didn't.
-use Rattle.std.specs.Prelude.{◌≡◌, ◌⊎◌, ◌↔◌, Bool, true, false, IsTrue, Option, None, IfSome, Result}
+use Rattle.std.specs.Prelude.{◌≡◌, ◌⊎◌, ◌↔◌, Bool, false, IsTrue, Option, Result}
 use Rattle.std.specs.declared.alloc.AllocError.{AllocError}
 use Rattle.sqlite.specs.FileStore.{view}
 use Rattle.sqlite.specs.Files.{IsBlankAs, IsOpened, file_state, over_files}

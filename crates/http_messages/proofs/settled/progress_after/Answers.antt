@@ -1,4 +1,4 @@
-use Rattle.std.proofs.Common.{◌≡◌, ◌∙◌, ◌++◌, ◌≤◌, ◌+◌, [], List, ℕ, Ok, Err, ap, append-nil, arith, length, sym, subst, refl}
+use Rattle.std.proofs.Common.{◌∙◌, ◌≤◌, ◌+◌, [], Ok, Err, ap, append-nil, arith, length, sym, subst, refl}
 use Rattle.text_io.specs.Inputs.{most_input}
 use Rattle.http_messages.specs.Heads.{IsJudged}
 use Rattle.http_messages.specs.HeadTests.{parts}

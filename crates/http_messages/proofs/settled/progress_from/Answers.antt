@@ -1,4 +1,4 @@
-use Rattle.std.proofs.Common.{◌≡◌, ◌∙◌, ◌≤◌, length, arith, sym, refl}
+use Rattle.std.proofs.Common.{◌∙◌, ◌≤◌, length, arith, sym, refl}
 use Rattle.http_messages.specs.declared.fixed.FixedReply.TheVariants.{HeadTooLarge}
 use Rattle.http_messages.proofs.EndLemmas.{none_so_far}
 use Rattle.http_messages.proofs.SettledLemmas.{front_end, front_taken, too_large, whole_front, without_end}

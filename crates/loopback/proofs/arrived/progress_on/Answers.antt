@@ -1,4 +1,4 @@
-use Rattle.std.proofs.Common.{◌≡◌, ◌≤◌, length, take, drop, sym, arith, length-take-le, refl}
+use Rattle.std.proofs.Common.{length, take, drop, sym, arith, length-take-le, refl}
 use Rattle.std.proofs.lemmas.List.{take-append-drop}
 use Rattle.loopback.proofs.ArrivedLemmas.{body_told, message_told, refused_told, searched}
 use Rattle.loopback.proofs.arrived.progress_on.Goals as goal

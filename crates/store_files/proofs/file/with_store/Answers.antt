@@ -1,19 +1,14 @@
-use Rattle.std.proofs.Common.{◌≡◌, Bool, Result, Ok, Err, None, IfErr, IsErrAnd, refl, sym, subst, inl, inr}
+use Rattle.std.proofs.Common.{◌≡◌, Bool, Result, Ok, Err, None, IfErr, IsErrAnd, refl, inl, inr}
 use Rattle.std.proofs.lemmas.Result.{IfErr-weaker, IfOk-weaker}
-use Rattle.std.specs.declared.alloc.AllocError.{AllocError}
 use Rattle.sqlite.specs.Recovery.{Image}
-use Rattle.sqlite.specs.declared.error.Error.{Error}
 use Rattle.sqlite.specs.declared.error.Error.TheVariants.{SqliteFailure}
-use Rattle.sqlite.specs.declared.error.ErrorCode.TheVariants.{CannotOpen, OutOfMemory}
+use Rattle.sqlite.specs.declared.error.ErrorCode.TheVariants.{OutOfMemory}
 use Rattle.sqlite_disk.specs.declared.Disk.{Ghosts}
-use Rattle.over_tables.specs.Refusals.{IsNotOurs}
 use Rattle.over_tables.specs.declared.fault.FileFault.{FileFault}
 use Rattle.over_tables.specs.declared.fault.FileFault.TheVariants.{Memory}
 use Rattle.over_tables.specs.declared.opening.Wanted.{Wanted}
 use Rattle.store_files.specs.Files.{IsNotTaken}
-use Rattle.store_files.specs.Unopened.{of_opening}
-use Rattle.store_files.specs.declared.place.Place.{Place}
-use Rattle.store_files.specs.declared.place.Place.TheVariants.{Special, Unclear}
+use Rattle.store_files.specs.declared.place.Place.TheVariants.{Unclear}
 use Rattle.store_files.proofs.file.with_store.Goals as goal
 
 -- If an allocation fails before SQLite is called, no database is opened.

@@ -1,4 +1,4 @@
-use Rattle.std.proofs.Common.{rules, ◌∙◌, ap, length, sym, subst, arith}
+use Rattle.std.proofs.Common.{rules, ◌∙◌, ap, length, subst, arith}
 use Rattle.http_messages.specs.Progresses.{IsProgress}
 use Rattle.loopback.proofs.ArrivedLemmas.{front_told, told_all}
 use Rattle.std.proofs.lemmas.Grind.{common_steps}

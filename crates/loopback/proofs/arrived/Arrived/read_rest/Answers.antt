@@ -1,5 +1,4 @@
-use Rattle.std.proofs.Common.{rules, ◌≡◌, ◌∙◌, ◌+◌, ◌++◌, ◌<◌, ap, length, sym, arith, append_assoc, length-append}
-use Rattle.std.specs.Prelude.{vec_len}
+use Rattle.std.proofs.Common.{rules, ◌∙◌, ◌+◌, ◌++◌, ap, length, sym, arith, append_assoc, length-append}
 use Rattle.loopback.proofs.ArrivedLemmas.{body_told}
 use Rattle.std.proofs.lemmas.Grind.{common_steps}
 use Rattle.loopback.proofs.arrived.Arrived.read_rest.Goals as goal

@@ -1,4 +1,4 @@
-use Rattle.std.proofs.Common.{◌≡◌, ◌∙◌, ap}
+use Rattle.std.proofs.Common.{◌∙◌, ap}
 use Rattle.loopback.specs.Arriving.{is_settled}
 use Rattle.loopback.proofs.PlaceLemmas.{found_passes}
 use Rattle.loopback.proofs.slots.Slots.take.Goals as goal
