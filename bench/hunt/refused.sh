@@ -3,7 +3,7 @@
 # to the end. It fails where such a child fails, is killed, or takes over 60 seconds, and names those. A word given here picks the tests whose
 # names have it: bench/run refused memory:: picks those of single calls, and bench/run refused refused:: those over both stores. Of a test that
 # asks for more than 100,000, it refuses some 2000, evenly spread. The tests of files in a folder of their own are run anew for each allocation,
-# and such a run may end by saying that memory was refused. It leaves out the tests of files that stop at each call or stay, of damaged tables,
+# and such a run may end by saying that it is out of memory. It leaves out the tests of files that stop at each call or stay, of damaged tables,
 # of earlier versions served, of a file next to its WAL, of a damaged WAL, of power cuts, of a file behind a socket, and of a file system that
 # says itself that memory is refused: these fail if it is.
 set -euo pipefail

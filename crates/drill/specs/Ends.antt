@@ -115,7 +115,7 @@ stop_text (stop.BadLine n) = codes "bad line " ++ decimal n
 stop_text stop.Storage = codes "the store did not open"
 stop_text stop.ReadFailed = codes "the reader failed"
 stop_text stop.WriteFailed = codes "the writer failed"
-stop_text stop.Memory = codes "memory was refused"
+stop_text stop.Memory = codes "out of memory"
 
 -- ---- intermediate results
 

@@ -34,7 +34,7 @@ impl fmt::Display for DrillStop {
             DrillStop::Storage => f.write_str("the store did not open"),
             DrillStop::ReadFailed => f.write_str("the reader failed"),
             DrillStop::WriteFailed => f.write_str("the writer failed"),
-            DrillStop::Memory => f.write_str("memory was refused"),
+            DrillStop::Memory => f.write_str("out of memory"),
         }
     }
 }

@@ -114,7 +114,7 @@ stop_text stop.Stale = codes "the boot is released"
 stop_text stop.NoReply = codes "no reply came"
 stop_text stop.ReadFailed = codes "the reader failed"
 stop_text stop.WriteFailed = codes "the writer failed"
-stop_text stop.Memory = codes "memory was refused"
+stop_text stop.Memory = codes "out of memory"
 
 -- ---- intermediate results
 

@@ -57,7 +57,7 @@ impl fmt::Display for FeedStop {
             FeedStop::NoReply => f.write_str("no reply came"),
             FeedStop::ReadFailed => f.write_str("the reader failed"),
             FeedStop::WriteFailed => f.write_str("the writer failed"),
-            FeedStop::Memory => f.write_str("memory was refused"),
+            FeedStop::Memory => f.write_str("out of memory"),
         }
     }
 }

@@ -81,7 +81,7 @@ IsAsked wanted (Err fault.Memory) = ⊤
 -- the text of an error
 abbrev pub fault_text : AskFault → List ℕ
 fault_text (fault.Refused why) = codes "the message is refused"
-fault_text fault.Memory = codes "memory was refused"
+fault_text fault.Memory = codes "out of memory"
 
 -- the number and the call of an arrival are in range
 abbrev pub IsInRange : Asked → Type 0

@@ -63,7 +63,7 @@ impl fmt::Display for AskFault {
     fn fmt<W: fmt::Write>(&self, f: &mut fmt::Formatter<W>) -> fmt::Result {
         f.write_str(match self {
             AskFault::Refused(_) => "the message is refused",
-            AskFault::Memory => "memory was refused",
+            AskFault::Memory => "out of memory",
         })
     }
 }

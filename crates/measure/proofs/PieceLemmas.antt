@@ -1,4 +1,4 @@
--- What `chunks` gives are the pieces.
+-- Lemmas: the items of `chunks` are the pieces.
 use Rattle.std.proofs.Common.{◌≡◌, ℕ, zero, suc, ◌<◌, ◌≤◌, min, List, [], ◌∷◌, ◌++◌, length, take, drop, refl, sym, ap, ◌∙◌, subst, arith, length-drop}
 use Rattle.std.proofs.Math.Seq.{take-append_seam}
 use Rattle.std.proofs.lemmas.Iterator.{YieldsList}
@@ -7,7 +7,7 @@ use Rattle.std.proofs.lemmas.List.{append_cancel_left, nil_from_length, take-app
 use Rattle.std.specs.Slice.Iter.{chunks_rest, chunks_size, chunks_steps}
 use Rattle.measure.specs.Pieces.{first_pieces, pieces_of}
 
--- asking for more pieces than there are changes nothing
+-- A larger limit on the number of pieces changes nothing.
 first_pieces-enough : (n m size : ℕ) (bytes : List ℕ) → 0 < size → length bytes ≤ n → length bytes ≤ m → first_pieces n size bytes ≡ first_pieces m size bytes
 first_pieces-enough zero zero size bytes some below under = refl
 first_pieces-enough zero (suc m) size [] some below under = refl
@@ -27,7 +27,7 @@ pieces_of-cons size (byte ∷ bytes) some filled =
     (first_pieces-enough (length bytes) (length (drop size (byte ∷ bytes))) size (drop size (byte ∷ bytes)) some
     (omega (arith, length-drop size (byte ∷ bytes))) (omega arith))
 
--- a step of `chunks` takes off the first piece
+-- Each step of `chunks` removes the first piece.
 pieces_of-step : (size : ℕ) (bytes front rest : List ℕ) → 0 < size → bytes ≡ front ++ rest → length front ≡ min size (length bytes) → 0 < length bytes
     → pieces_of size bytes ≡ front ∷ pieces_of size rest
 pieces_of-step size bytes front rest some parts cut filled =
@@ -37,7 +37,7 @@ pieces_of-step size bytes front rest some parts cut filled =
     append_cancel_left front _ _ (ap (λ t. t ++ drop size bytes) (sym taken) ∙ take-append-drop size bytes ∙ parts) in
     pieces_of-cons size bytes some filled ∙ ap (λ t. t ∷ pieces_of size (drop size bytes)) taken ∙ ap (λ d. front ∷ pieces_of size d) left
 
--- what `chunks` gives are the pieces of what it has left
+-- The items of `chunks` are the pieces of the bytes that are left.
 pub YieldsList-from_chunks : (bytes : List ℕ) (size : ℕ) {s : _} → 0 < size → chunks_rest s ≡ bytes → chunks_size s ≡ size
     → YieldsList (chunks_steps {A = ℕ}) (λ x. x.now) s (pieces_of size bytes)
 YieldsList-from_chunks bytes size {s} some rest kept =

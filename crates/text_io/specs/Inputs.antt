@@ -27,4 +27,4 @@ fault_of _ = Failed
 -- the text of a fault
 abbrev pub fault_text : ReadFault → List ℕ
 fault_text Failed = codes "the reader failed"
-fault_text Memory = codes "memory was refused"
+fault_text Memory = codes "out of memory"

@@ -40,7 +40,7 @@ impl fmt::Display for ReadFault {
     fn fmt<W: fmt::Write>(&self, f: &mut fmt::Formatter<W>) -> fmt::Result {
         match self {
             ReadFault::Failed => f.write_str("the reader failed"),
-            ReadFault::Memory => f.write_str("memory was refused"),
+            ReadFault::Memory => f.write_str("out of memory"),
         }
     }
 }

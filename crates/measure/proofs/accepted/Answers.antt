@@ -1,4 +1,4 @@
--- The count of the pieces that the check takes.
+-- The number of pieces that the check accepts.
 use Rattle.std.proofs.Common.{rules, tests}
 use Rattle.std.proofs.lemmas.Iterator.Consumers.{YieldsList-at, YieldsList-from_filter, count_from_yields_List}
 use Rattle.tlv_check.specs.RecordTest.{is_record_of}
