@@ -6,9 +6,9 @@ ATTACH 'shop.db' AS copy;
 SELECT '{"do":"discard","blank":' || serial || '}' FROM blank
   WHERE serial NOT IN (SELECT serial FROM copy.blank) ORDER BY serial;
 
--- Records that are good only in the newer file.
+-- Records that are good or withdrawn only in the newer file.
 SELECT '{"do":"withdraw","batch":"' || batch.name || '","record":"' || record.name || '"}'
   FROM record JOIN batch ON batch.id = record.batch
-  WHERE record.state = 4 AND (batch.name, record.name) NOT IN
-    (SELECT b.name, r.name FROM copy.record r JOIN copy.batch b ON b.id = r.batch WHERE r.state = 4)
+  WHERE record.state IN (3, 4) AND (batch.name, record.name) NOT IN
+    (SELECT b.name, r.name FROM copy.record r JOIN copy.batch b ON b.id = r.batch WHERE r.state IN (3, 4))
   ORDER BY batch.id, record.place;
