@@ -5,6 +5,8 @@
  * that fails, is killed or takes over 60 seconds, and then how many allocations were asked for, refused, and failed so. The program itself
  * is refused nothing. It may have one thread, and no file or socket that a child would share.
  *
+ * LASTING: if it is set, all later allocations of a child are refused too.
+ *
  * AT: with no STEP, the number of the one allocation that the program itself is refused; it is killed behind 60 seconds.
  */
 #include <errno.h>
@@ -25,7 +27,7 @@ static struct {
 } running[MOST_JOBS];
 
 static unsigned long step, alone, jobs, asked, children, failed, at_work;
-static int report = -1;
+static int report = -1, is_lasting, is_out_of_memory;
 
 static unsigned long number_of(const char *name)
 {
@@ -56,6 +58,7 @@ __attribute__((constructor)) static void begin(void)
     alone = number_of("AT");
     if (alone)
         alarm(60);
+    is_lasting = getenv("LASTING") != NULL;
     jobs = number_of("JOBS");
     if (jobs < 1 || jobs > MOST_JOBS)
         jobs = 1;
@@ -75,7 +78,7 @@ __attribute__((destructor)) static void end(void)
 /* Whether this allocation is refused, which it is in the child alone, or in the program by its number. */
 static int is_refused(void)
 {
-    if (report < 0 && ++asked == alone) {
+    if (is_out_of_memory || (report < 0 && ++asked == alone)) {
         errno = ENOMEM;
         return 1;
     }
@@ -91,6 +94,7 @@ static int is_refused(void)
         dup2(nowhere, 1);
         dup2(nowhere, 2);
         alarm(60);
+        is_out_of_memory = is_lasting;
         errno = ENOMEM;
         return 1;
     }

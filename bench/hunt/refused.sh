@@ -1,11 +1,12 @@
 #!/usr/bin/env bash
-# Refuses each allocation of the tests of `trials` and of `table_trials` in turn, each in a child of the test that is made there and goes on
-# to the end. It fails where such a child fails, is killed, or takes over 60 seconds, and names those. A word given here picks the tests whose
-# names have it: bench/run refused memory:: picks those of single calls, and bench/run refused refused:: those over both stores. Of a test that
-# asks for more than 100,000, it refuses some 2000, evenly spread. The tests of files in a folder of their own are run anew for each allocation,
-# and such a run may end by saying that it is out of memory. It leaves out the tests of files that stop at each call or stay, of damaged tables,
-# of earlier versions served, of a file next to its WAL, of a damaged WAL, of power cuts, of a file behind a socket, and of a file system that
-# says itself that memory is refused: these fail if it is.
+# Refuses each allocation of the tests of `trials`, `table_trials` and `socket_trials::memory` in turn, each in a child of the test that is made
+# there and goes on to the end. It fails where such a child fails, is killed, or takes over 60 seconds, and names those. A word given here picks
+# the tests whose names have it: bench/run refused memory:: picks those of single calls and of connections, and bench/run refused refused::
+# those over both stores. Of a test that asks for more than 100,000, it refuses some 2000, evenly spread. In the tests of `socket_trials` it then
+# refuses each allocation together with all later ones. The tests of files in a folder of their own are run anew for each allocation, and such a
+# run may end by saying that it is out of memory. It leaves out the tests of files that stop at each call or stay, of damaged tables, of earlier
+# versions served, of a file next to its WAL, of a damaged WAL, of power cuts, of a file behind a socket, and of a file system that says itself
+# that memory is refused, and the other tests of `socket_trials`: these fail if it is.
 set -euo pipefail
 cd "$(dirname "$0")/../.."
 folder=$(mktemp -d)
@@ -27,6 +28,12 @@ refuse_alone() {
     echo "$2 $2 $(wc -l <"$folder/wrong")"
 }
 
+# Refuses as `refuse` does, and keeps the numbers of the allocations that failed.
+refuse_each() {
+    refuse "$@"
+    sed -n "s/^allocation /$1: &/p" "$folder/report" >>"$folder/failed"
+}
+
 # The test that is named first is refused the allocations of these numbers, each in one run. Prints those that end wrong.
 run_alone() {
     local at room said
@@ -40,20 +47,22 @@ run_alone() {
 export -f run_alone
 export folder program
 
+left_out='::(a_stop_at_each_call_|files_)|^(damaged|carried|served|places|wals|flipped|power_cuts|drains|limits|lost|peers|ports)::'
 tests=0 total=0 failed=0
-for program in "$1" "$2"; do
-    for test in $("$program" --list | sed -n 's/: test$//p' | grep -v -e '::a_stop_at_each_call_' -e '::files_' -e '^damaged::' -e '^carried::' -e '^served::' -e '^places::' -e '^wals::' -e '^flipped::' -e '^power_cuts::' | grep -F -- "${3:-}"); do
+for program in "$1" "$2" "$3"; do
+    for test in $("$program" --list | sed -n 's/: test$//p' | grep -vE "$left_out" | grep -F -- "${4:-}"); do
         read -r asked _ <<<"$(refuse "$test" 1000000000)"
         step=$((asked > 100000 ? asked / 2000 + 1 : 1))
         case $test in
         causes::*) read -r asked refused wrong <<<"$(refuse_alone "$test" "$asked")" ;;
-        *)
-            read -r asked refused wrong <<<"$(refuse "$test" "$step")"
-            sed -n "s/^allocation /$test: &/p" "$folder/report" >>"$folder/failed"
-            ;;
+        *) read -r asked refused wrong <<<"$(refuse_each "$test" "$step")" ;;
         esac
         echo "$test: $refused of $asked"
         tests=$((tests + 1)) total=$((total + refused)) failed=$((failed + wrong))
+        [ "$program" = "$3" ] || continue
+        read -r asked refused wrong <<<"$(LASTING=1 refuse_each "$test" "$step")"
+        echo "$test: $refused of $asked, each with all later ones"
+        total=$((total + refused)) failed=$((failed + wrong))
     done
 done
 cat "$folder/failed"

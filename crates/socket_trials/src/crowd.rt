@@ -1,7 +1,6 @@
 //! A system with several peers of a server, in memory. Their bytes arrive at given times, and the
-//! clock advances when the server waits. The calls of the server are recorded.
-ghost use Rattle.std.specs.Prelude.{◌≤◌, length};
-
+//! clock advances when the server waits. The system allocates nothing, so no failed allocation
+//! changes what it does.
 use loopback::{Watch, Watches};
 use std::alloc::{Alloc, Global};
 use std::cell::Cell;
@@ -32,23 +31,54 @@ pub(crate) struct Peer {
     pub(crate) pieces: &'static [(u64, Piece)],
 }
 
-/// A call of the server on a peer's stream.
-#[derive(Clone, Copy, Debug, PartialEq, Eq)]
-pub(crate) enum Did {
-    /// A read of the given number of bytes.
-    Read(usize),
-    /// A write of the given number of bytes.
-    Wrote(usize),
-    /// A shutdown of one direction or of both.
-    Ended(Shutdown),
+/// A list of peers from rows, each with the number of peers, the time and the pieces.
+macro_rules! crowd_of {
+    ($(($times:expr, $at:expr, $pieces:expr)),* $(,)?) => {
+        &[$(Peer {
+            times: $times,
+            at: $at,
+            pieces: $pieces,
+        }),*]
+    };
 }
 
-/// A call with its peer and its time.
+pub(crate) use crowd_of;
+
+/// A writer that keeps at most 512 bytes.
 #[derive(Clone, Copy)]
-pub(crate) struct Note {
-    peer: usize,
-    at: u64,
-    did: Did,
+pub(crate) struct Written {
+    bytes: [u8; 512],
+    count: usize,
+}
+
+impl Written {
+    pub(crate) fn new() -> Written {
+        Written {
+            bytes: [0; 512],
+            count: 0,
+        }
+    }
+
+    /// Returns the bytes that were written.
+    pub(crate) fn as_slice(&self) -> &[u8] {
+        self.bytes.get(..self.count).unwrap_or(&[])
+    }
+}
+
+impl Write for Written {
+    fn write(&mut self, buf: &[u8]) -> io::Result<usize> {
+        let Some(room) = self.bytes.get_mut(self.count..) else {
+            return Ok(0);
+        };
+        let count = buf.len().min(room.len());
+        room[..count].copy_from_slice(&buf[..count]);
+        self.count += count;
+        Ok(count)
+    }
+
+    fn flush(&mut self) -> io::Result<()> {
+        Ok(())
+    }
 }
 
 /// The sockets that a wait reports.
@@ -62,7 +92,8 @@ pub(crate) enum Reports {
     Odd,
 }
 
-/// The state of the system: the peers that haven't connected yet, the time, and the recorded calls.
+/// The state of the system: the peers that haven't connected yet, the time, and the results of the
+/// server's calls.
 #[derive(Drop)]
 pub(crate) struct Crowd {
     alloc: Global,
@@ -70,7 +101,8 @@ pub(crate) struct Crowd {
     peers: Cell<&'static [Peer]>,
     // The number of peers of the first kind that have connected.
     of_kind: Cell<u32>,
-    came: Cell<usize>,
+    /// The number of peers whose connections were accepted.
+    pub(crate) came: Cell<usize>,
     /// The sockets that a wait reports.
     pub(crate) reports: Cell<Reports>,
     /// The number of the next calls of `accept` that fail, and their error.
@@ -86,8 +118,11 @@ pub(crate) struct Crowd {
     /// The number of the next writes that fail, the time that each of them takes in milliseconds,
     /// and their error.
     pub(crate) write_faults: Cell<(u32, u64, ErrorKind)>,
-    notes: Cell<Option<Vec<Note>>>,
-    written: Cell<Option<Vec<u8>>>,
+    /// The number of bytes that were read from the first peer.
+    pub(crate) first_read: Cell<usize>,
+    /// The time when the first peer got the end of its response.
+    pub(crate) first_ended: Cell<Option<u64>>,
+    written: Cell<Written>,
 }
 
 impl Crowd {
@@ -106,8 +141,9 @@ impl Crowd {
             bound: Cell::new((None, 0)),
             write_wait: Cell::new(None),
             write_faults: Cell::new((0, 0, ErrorKind::Other)),
-            notes: Cell::new(None),
-            written: Cell::new(None),
+            first_read: Cell::new(0),
+            first_ended: Cell::new(None),
+            written: Cell::new(Written::new()),
         }
     }
 
@@ -122,68 +158,8 @@ impl Crowd {
     }
 
     /// Returns the bytes that were written since the last call.
-    pub(crate) fn take_written(&self) -> Vec<u8> {
-        self.written.take().unwrap_or(Vec::new(self.alloc))
-    }
-
-    /// Returns the number of bytes that were read from the peer with the number `peer`.
-    pub(crate) fn count_read(&self, peer: usize) -> usize {
-        let notes = self.notes.take().unwrap_or(Vec::new(self.alloc));
-        let mut count = 0usize;
-        for note in &notes {
-            if let Did::Read(more) = note.did {
-                if note.peer == peer {
-                    count = count.saturating_add(more);
-                }
-            }
-        }
-        self.notes.set(Some(notes));
-        count
-    }
-
-    /// Returns the time of the last shutdown `how` of the stream of the peer with the number
-    /// `peer`.
-    pub(crate) fn find_end(&self, peer: usize, how: Shutdown) -> Option<u64> {
-        let notes = self.notes.take().unwrap_or(Vec::new(self.alloc));
-        let mut found = None;
-        for note in &notes {
-            if note.peer == peer && note.did == Did::Ended(how) {
-                found = Some(note.at);
-            }
-        }
-        self.notes.set(Some(notes));
-        found
-    }
-
-    // Records a call. If an allocation fails, tries once more. This succeeds in the tests of failed
-    // allocations, where only one allocation fails.
-    fn note(&self, peer: usize, did: Did) -> io::Result<()> {
-        let at = self.now();
-        let note = Note { peer, at, did };
-        let mut notes = self.notes.take().unwrap_or(Vec::new(self.alloc));
-        let noted = match notes.push(note) {
-            Ok(()) => Ok(()),
-            Err(_) => notes.push(note),
-        };
-        self.notes.set(Some(notes));
-        match noted {
-            Ok(()) => Ok(()),
-            Err(_) => Err(ErrorKind::OutOfMemory.into()),
-        }
-    }
-
-    // Records written bytes, and tries once more if an allocation fails, as `note` does.
-    fn keep(&self, bytes: &[u8]) -> io::Result<()> {
-        let mut written = self.take_written();
-        let kept = match written.extend_from_slice(bytes) {
-            Ok(()) => Ok(()),
-            Err(_) => written.extend_from_slice(bytes),
-        };
-        self.written.set(Some(written));
-        match kept {
-            Ok(()) => Ok(()),
-            Err(_) => Err(ErrorKind::OutOfMemory.into()),
-        }
+    pub(crate) fn take_written(&self) -> Written {
+        self.written.replace(Written::new())
     }
 
     // Fails if this call of `accept` is one of those that fail.
@@ -205,7 +181,7 @@ pub(crate) struct Hall<'c>(pub(crate) &'c Crowd);
 #[derive(Drop)]
 pub(crate) struct Taken<'c> {
     crowd: &'c Crowd,
-    number: usize,
+    is_first: bool,
     pieces: &'static [(u64, Piece)],
     at: usize,
 }
@@ -277,17 +253,17 @@ impl<'c> OpenListener for Hall<'c> {
         let crowd = self.0;
         match crowd.peers.get().split_first() {
             Some((peer, rest)) if peer.at <= crowd.now() => {
-                let number = crowd.came.get();
+                let came = crowd.came.get();
                 crowd.of_kind.set(crowd.of_kind.get().saturating_add(1));
                 if crowd.of_kind.get() >= peer.times {
                     crowd.peers.set(rest);
                     crowd.of_kind.set(0);
                 }
-                crowd.came.set(number.saturating_add(1));
+                crowd.came.set(came.saturating_add(1));
                 crowd.pass(crowd.accept_takes.get());
                 let taken = Taken {
                     crowd,
-                    number,
+                    is_first: came == 0,
                     pieces: peer.pieces,
                     at: 0,
                 };
@@ -305,7 +281,10 @@ impl<'c> OpenListener for Hall<'c> {
 
 impl OpenStream for Taken<'_> {
     fn shutdown(&self, how: Shutdown) -> io::Result<()> {
-        self.crowd.note(self.number, Did::Ended(how))
+        if self.is_first && how == Shutdown::Write {
+            self.crowd.first_ended.set(Some(self.crowd.now()));
+        }
+        Ok(())
     }
 
     fn set_nonblocking(&self, _nonblocking: bool) -> io::Result<()> {
@@ -354,7 +333,10 @@ impl Read for Taken<'_> {
                 return Err(kind.into());
             }
         };
-        self.crowd.note(self.number, Did::Read(count))?;
+        if self.is_first {
+            let read = &self.crowd.first_read;
+            read.set(read.get().saturating_add(count));
+        }
         Ok(count)
     }
 }
@@ -367,9 +349,10 @@ impl Write for Taken<'_> {
             self.crowd.write_faults.set((left - 1, millis, kind));
             return Err(kind.into());
         }
-        self.crowd.keep(buf)?;
-        self.crowd.note(self.number, Did::Wrote(buf.len()))?;
-        Ok(buf.len())
+        let mut written = self.crowd.written.get();
+        let count = written.write(buf)?;
+        self.crowd.written.set(written);
+        Ok(count)
     }
 
     fn flush(&mut self) -> io::Result<()> {

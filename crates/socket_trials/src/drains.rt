@@ -1,25 +1,25 @@
 //! Tests of drains: which bytes of a connection are read after its response. Closing a connection
 //! with unread bytes resets it, and its peer may lose the response.
-use crate::crowd::{Crowd, Hall, Peer, Piece};
+use crate::crowd::{Crowd, Hall, Peer, Piece, crowd_of};
 use crate::peers::SERVED;
 use http_messages::ByteSource;
 use loopback::Loopback;
 use server::Connections;
 use std::alloc::Global;
 use std::io::Write;
-use std::net::Shutdown;
 use std::process::Abort;
 use std::test::Fail;
 
-// The head of a message whose body has one byte more than 16 MiB.
-const TOO_LARGE: &[u8] = b"POST /c/m1/1 HTTP/1.1\r\nContent-Length: 16777217\r\n\r\n";
+/// The head of a message whose body has one byte more than 16 MiB.
+pub(crate) const TOO_LARGE: &[u8] = b"POST /c/m1/1 HTTP/1.1\r\nContent-Length: 16777217\r\n\r\n";
 
-// As many bytes as a head may have, without the end of a head.
-const ENDLESS: &[u8] = &[b'a'; 8192];
+/// As many bytes as a head may have, without the end of a head.
+pub(crate) const ENDLESS: &[u8] = &[b'a'; 8192];
 
-const CHUNKED: &[u8] = b"POST /c/m1/1 HTTP/1.1\r\nTransfer-Encoding: chunked\r\n\r\n";
+pub(crate) const CHUNKED: &[u8] = b"POST /c/m1/1 HTTP/1.1\r\nTransfer-Encoding: chunked\r\n\r\n";
 
-const RESET: &[u8] = b"POST /c/m1/1 HTTP/1.1\r\nContent-Length: 14\r\n\r\n{\"do\":\"reset\"}";
+pub(crate) const RESET: &[u8] =
+    b"POST /c/m1/1 HTTP/1.1\r\nContent-Length: 14\r\n\r\n{\"do\":\"reset\"}";
 
 const NO_JSON: &[u8] = b"POST /c/m1/1 HTTP/1.1\r\nContent-Length: 14\r\n\r\n{\"do\":\"reset\".";
 
@@ -54,27 +54,19 @@ fn drained(
     serve(&mut port, start, 1)?;
     assert_eq!(rt; crowd.take_written().as_slice(), start.as_bytes());
     // The peer sees the end of its response before more bytes are read.
-    assert_eq!(rt; crowd.find_end(0, Shutdown::Write), Some(crowd.now()));
-    assert_eq!(rt; crowd.count_read(0), size);
+    assert_eq!(rt; crowd.first_ended.get(), Some(crowd.now()));
+    assert_eq!(rt; crowd.first_read.get(), size);
     serve(&mut port, start, 1)?;
     assert_eq!(rt; crowd.now(), 4000);
-    Ok(crowd.count_read(0).saturating_sub(size))
+    Ok(crowd.first_read.get().saturating_sub(size))
 }
 
 // A peer that sends the given pieces, and a second peer that connects at the given time.
 macro_rules! before_another {
     ($pieces:expr, $at:expr) => {
-        &[
-            Peer {
-                times: 1,
-                at: 0,
-                pieces: $pieces,
-            },
-            Peer {
-                times: 1,
-                at: $at,
-                pieces: &[(0, Piece::Text(b"GET / HTTP/1.1\r\n\r\n"))],
-            },
+        crowd_of![
+            (1, 0, $pieces),
+            (1, $at, &[(0, Piece::Text(b"GET / HTTP/1.1\r\n\r\n"))]),
         ]
     };
 }
@@ -189,7 +181,7 @@ fn a_drain_ends_in_time(rt: HostRuntime) -> Result<(), Fail> {
         let mut port = Loopback::listen(&hall, 1)?;
         serve(&mut port, "HTTP/1.1 400 ", 2)?;
         assert_eq!(rt; crowd.now(), 15_000);
-        assert_eq!(rt; crowd.count_read(0), CHUNKED.len().saturating_add(*read));
+        assert_eq!(rt; crowd.first_read.get(), CHUNKED.len().saturating_add(*read));
     }
     Ok(())
 }
@@ -220,7 +212,7 @@ fn the_last_drains_get_a_second(rt: HostRuntime) -> Result<(), Fail> {
         port.end_after(1);
         serve(&mut port, "HTTP/1.1 400 ", 1)?;
         assert_eq!(rt; crowd.now(), *millis);
-        assert_eq!(rt; crowd.count_read(0), *read);
+        assert_eq!(rt; crowd.first_read.get(), *read);
     }
     Ok(())
 }

@@ -1,5 +1,6 @@
 //! Tests of the use of sockets: addresses, time limits, pauses, the order of connections, limits,
-//! drains and signals. The sockets are in memory, and the tests advance the clock.
+//! drains, signals and failed allocations. The sockets are in memory, and the tests advance the
+//! clock.
 #![tactic(auto)]
 
 #[cfg(test)]
@@ -12,6 +13,8 @@ mod fake;
 mod limits;
 #[cfg(test)]
 mod lost;
+#[cfg(test)]
+mod memory;
 #[cfg(test)]
 mod peers;
 #[cfg(test)]

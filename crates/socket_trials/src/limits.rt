@@ -1,6 +1,6 @@
 //! Tests of the limits: which connection is dropped if there are too many, or if their bodies are
 //! too large together.
-use crate::crowd::{Crowd, Hall, Peer, Piece};
+use crate::crowd::{Crowd, Hall, Peer, Piece, crowd_of};
 use http_messages::ByteSource;
 use loopback::Loopback;
 use server::{Connections, End, Served};
@@ -61,52 +61,16 @@ fn the_silent_are_dropped_before_those_that_wait(rt: HostRuntime) -> Result<(), 
         (0, Piece::Text(b"GET /1 H")),
         (2000, Piece::Text(b"TTP/1.1\r\n\r\n")),
     ];
-    const PEERS: &[Peer] = &[
-        Peer {
-            times: 100,
-            at: 0,
-            pieces: TALKS,
-        },
-        Peer {
-            times: 1,
-            at: 0,
-            pieces: WAITS,
-        },
-        Peer {
-            times: 1,
-            at: 0,
-            pieces: LATER,
-        },
-        Peer {
-            times: 26,
-            at: 0,
-            pieces: TALKS,
-        },
-        Peer {
-            times: 1,
-            at: 300,
-            pieces: ONE,
-        },
-        Peer {
-            times: 1,
-            at: 600,
-            pieces: SILENT,
-        },
-        Peer {
-            times: 1,
-            at: 800,
-            pieces: ONE,
-        },
-        Peer {
-            times: 1,
-            at: 1100,
-            pieces: TALKS,
-        },
-        Peer {
-            times: 1,
-            at: 1300,
-            pieces: ONE,
-        },
+    const PEERS: &[Peer] = crowd_of![
+        (100, 0, TALKS),
+        (1, 0, WAITS),
+        (1, 0, LATER),
+        (26, 0, TALKS),
+        (1, 300, ONE),
+        (1, 600, SILENT),
+        (1, 800, ONE),
+        (1, 1100, TALKS),
+        (1, 1300, ONE),
     ];
     let size = GET.len();
     // The first connection that sends `TALKS` is broken 5 s after its last byte was read.
@@ -123,27 +87,11 @@ fn the_silent_are_dropped_before_those_that_wait(rt: HostRuntime) -> Result<(), 
 fn the_drained_are_dropped_first(rt: HostRuntime) -> Result<(), Fail> {
     const DRAINED: &[(u64, Piece)] = &[(0, Piece::Text(REFUSED)), (3000, Piece::Many(10))];
     const LATER: &[(u64, Piece)] = &[(3000, Piece::Text(GET))];
-    const PEERS: &[Peer] = &[
-        Peer {
-            times: 1,
-            at: 0,
-            pieces: DRAINED,
-        },
-        Peer {
-            times: 1,
-            at: 0,
-            pieces: LATER,
-        },
-        Peer {
-            times: 126,
-            at: 0,
-            pieces: TALKS,
-        },
-        Peer {
-            times: 1,
-            at: 300,
-            pieces: ONE,
-        },
+    const PEERS: &[Peer] = crowd_of![
+        (1, 0, DRAINED),
+        (1, 0, LATER),
+        (126, 0, TALKS),
+        (1, 300, ONE),
     ];
     let size = GET.len();
     check(
@@ -157,11 +105,7 @@ fn the_drained_are_dropped_first(rt: HostRuntime) -> Result<(), Fail> {
 // Settled connections aren't dropped. The others wait to be accepted.
 #[test]
 fn the_settled_are_not_dropped(rt: HostRuntime) -> Result<(), Fail> {
-    const PEERS: &[Peer] = &[Peer {
-        times: 300,
-        at: 0,
-        pieces: ONE,
-    }];
+    const PEERS: &[Peer] = crowd_of![(300, 0, ONE)];
     check(&rt, rt.alloc(), PEERS, &[(0, GET.len()); 300])
 }
 
@@ -175,18 +119,7 @@ fn the_largest_is_dropped_if_no_room_is_left(rt: HostRuntime) -> Result<(), Fail
         (0, Piece::Many(15_000_000)),
         (1000, Piece::Many(1_777_216)),
     ];
-    const PEERS: &[Peer] = &[
-        Peer {
-            times: 5,
-            at: 0,
-            pieces: SMALL,
-        },
-        Peer {
-            times: 1,
-            at: 300,
-            pieces: ONE,
-        },
-    ];
+    const PEERS: &[Peer] = crowd_of![(5, 0, SMALL), (1, 300, ONE)];
     let all = HEAD.len() + 16_777_216;
     let wanted = [
         (500, GET.len()),

@@ -3,6 +3,7 @@ use event_lines::{EventLog, Level};
 use http_messages::{ByteSource, Pieces};
 use list_store::ListStore;
 use server::{Connections, NextFault, Opened, Served, serve_and_report};
+use std::alloc::Global;
 use std::test::Fail;
 
 // A reader of the first bytes of a connection. The other bytes were lost.
@@ -58,15 +59,37 @@ impl<'a> Connections for Losing<'a> {
     }
 }
 
+const OPENED: Opened<'static> = Opened {
+    path: b"shop.db",
+    is_new: true,
+    has_log: false,
+};
+
+// Serves a connection that brings only the bytes `first`, and returns its response.
+fn served(alloc: Global, first: &[u8]) -> Result<Vec<u8>, Fail> {
+    let mut connections = Losing {
+        first,
+        reply: Some(Vec::new(alloc)),
+    };
+    let mut lines: Vec<u8> = Vec::new(alloc);
+    let mut events: EventLog<Vec<u8>> = EventLog::new(Level::Off, Vec::new(alloc));
+    serve_and_report(
+        alloc,
+        ListStore::new(alloc),
+        &mut connections,
+        &mut lines,
+        &mut events,
+        &OPENED,
+        8807,
+        1,
+    )?;
+    Ok(connections.reply.take().ok_or("no connection")?)
+}
+
 // A message gets status 503 only if its head is complete and passes its tests. The response to any
 // other message doesn't depend on the lost bytes.
 #[test]
 fn a_message_that_lost_its_body_gets_503(rt: HostRuntime) -> Result<(), Fail> {
-    let opened = Opened {
-        path: b"shop.db",
-        is_new: true,
-        has_log: false,
-    };
     let table: [(&[u8], &[u8]); 4] = [
         (
             b"POST /c/m1/1 HTTP/1.1\r\nContent-Length: 14\r\n\r\n{\"do\":",
@@ -83,23 +106,7 @@ fn a_message_that_lost_its_body_gets_503(rt: HostRuntime) -> Result<(), Fail> {
         (b"GET /batch/B9 HTTP/1.1\r\n", b""),
     ];
     for (first, start) in table {
-        let mut connections = Losing {
-            first,
-            reply: Some(Vec::new(rt.alloc())),
-        };
-        let mut lines: Vec<u8> = Vec::new(rt.alloc());
-        let mut events: EventLog<Vec<u8>> = EventLog::new(Level::Off, Vec::new(rt.alloc()));
-        serve_and_report(
-            rt.alloc(),
-            ListStore::new(rt.alloc()),
-            &mut connections,
-            &mut lines,
-            &mut events,
-            &opened,
-            8807,
-            1,
-        )?;
-        let reply = connections.reply.take().ok_or("no connection")?;
+        let reply = served(rt.alloc(), first)?;
         assert!(rt; reply.starts_with(start));
         assert_eq!(rt; reply.is_empty(), start.is_empty());
     }

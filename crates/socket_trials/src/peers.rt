@@ -1,5 +1,5 @@
 //! Tests of a server's connections: its port, the order, the time limits, and errors of `accept`.
-use crate::crowd::{Crowd, Hall, Peer, Piece, Reports};
+use crate::crowd::{Crowd, Hall, Peer, Piece, Reports, crowd_of};
 use crate::fake::{local, millis};
 use http_messages::ByteSource;
 use loopback::Loopback;
@@ -10,6 +10,8 @@ use std::test::Fail;
 const GET: &[u8] = b"GET /1 HTTP/1.1\r\n\r\n";
 
 const ONE: &[(u64, Piece)] = &[(0, Piece::Text(GET))];
+
+const ONE_PEER: &[Peer] = crowd_of![(1, 0, ONE)];
 
 pub(crate) const SERVED: Served = Served {
     end: End::Answered,
@@ -60,64 +62,39 @@ fn a_port_that_is_taken_is_asked_for_once(rt: HostRuntime) -> Result<(), Fail> {
     Ok(())
 }
 
+const DRIPS: &[(u64, Piece)] = &[
+    (1000, Piece::Text(b"a")),
+    (4000, Piece::Text(b"b")),
+    (8000, Piece::Text(b"c")),
+    (12_000, Piece::Text(b"\r\n\r\n")),
+];
+
+const TWO: &[(u64, Piece)] = &[
+    (0, Piece::Text(b"GET /2 HT")),
+    (500, Piece::Text(b"TP/1.1\r\n\r\n")),
+];
+
+const FAILS: &[(u64, Piece)] = &[
+    (0, Piece::Fails(ErrorKind::Interrupted)),
+    (900, Piece::Fails(ErrorKind::ConnectionReset)),
+];
+
+// A silent peer, two slow ones, one that closes its connection, one that stops sending, one whose
+// connection fails, and a fast one.
+const ALL_KINDS: &[Peer] = crowd_of![
+    (1, 0, &[]),
+    (1, 0, DRIPS),
+    (1, 0, TWO),
+    (1, 0, &[(0, Piece::Text(b"GET")), (600, Piece::End)]),
+    (1, 0, &[(0, Piece::Text(b"PUT"))]),
+    (1, 0, FAILS),
+    (1, 0, ONE),
+];
+
 // A message that is complete or cut off is served before a message that is still being received.
 // The latter is served when it is complete or too late. A silent peer uses no turn.
 #[test]
 fn complete_messages_come_before_slow_ones(rt: HostRuntime) -> Result<(), Fail> {
-    const SILENT: &[(u64, Piece)] = &[];
-    const DRIPS: &[(u64, Piece)] = &[
-        (1000, Piece::Text(b"a")),
-        (4000, Piece::Text(b"b")),
-        (8000, Piece::Text(b"c")),
-        (12_000, Piece::Text(b"\r\n\r\n")),
-    ];
-    const TWO: &[(u64, Piece)] = &[
-        (0, Piece::Text(b"GET /2 HT")),
-        (500, Piece::Text(b"TP/1.1\r\n\r\n")),
-    ];
-    const ENDS: &[(u64, Piece)] = &[(0, Piece::Text(b"GET")), (600, Piece::End)];
-    const STOPS: &[(u64, Piece)] = &[(0, Piece::Text(b"PUT"))];
-    const FAILS: &[(u64, Piece)] = &[
-        (0, Piece::Fails(ErrorKind::Interrupted)),
-        (900, Piece::Fails(ErrorKind::ConnectionReset)),
-    ];
-    const PEERS: &[Peer] = &[
-        Peer {
-            times: 1,
-            at: 0,
-            pieces: SILENT,
-        },
-        Peer {
-            times: 1,
-            at: 0,
-            pieces: DRIPS,
-        },
-        Peer {
-            times: 1,
-            at: 0,
-            pieces: TWO,
-        },
-        Peer {
-            times: 1,
-            at: 0,
-            pieces: ENDS,
-        },
-        Peer {
-            times: 1,
-            at: 0,
-            pieces: STOPS,
-        },
-        Peer {
-            times: 1,
-            at: 0,
-            pieces: FAILS,
-        },
-        Peer {
-            times: 1,
-            at: 0,
-            pieces: ONE,
-        },
-    ];
     let wanted: [(u64, &[u8]); 6] = [
         (0, GET),
         (500, b"GET /2 HTTP/1.1\r\n\r\n"),
@@ -127,7 +104,7 @@ fn complete_messages_come_before_slow_ones(rt: HostRuntime) -> Result<(), Fail> 
         (10_000, b"abc"),
     ];
     for reports in [Reports::All, Reports::Nothing, Reports::Odd] {
-        let crowd = Crowd::new(rt.alloc(), PEERS);
+        let crowd = Crowd::new(rt.alloc(), ALL_KINDS);
         crowd.reports.set(reports);
         let hall = Hall(&crowd);
         let mut port = Loopback::listen(&hall, 1)?;
@@ -145,22 +122,10 @@ fn complete_messages_come_before_slow_ones(rt: HostRuntime) -> Result<(), Fail> 
 // accepted first is served first.
 #[test]
 fn complete_messages_come_as_they_were_accepted(rt: HostRuntime) -> Result<(), Fail> {
-    const PEERS: &[Peer] = &[
-        Peer {
-            times: 1,
-            at: 0,
-            pieces: &[(190, Piece::Text(b"GET /b HTTP/1.1\r\n\r\n"))],
-        },
-        Peer {
-            times: 1,
-            at: 0,
-            pieces: &[(110, Piece::Text(b"GET /a HTTP/1.1\r\n\r\n"))],
-        },
-        Peer {
-            times: 1,
-            at: 130,
-            pieces: ONE,
-        },
+    const PEERS: &[Peer] = crowd_of![
+        (1, 0, &[(190, Piece::Text(b"GET /b HTTP/1.1\r\n\r\n"))]),
+        (1, 0, &[(110, Piece::Text(b"GET /a HTTP/1.1\r\n\r\n"))]),
+        (1, 130, ONE),
     ];
     let crowd = Crowd::new(rt.alloc(), PEERS);
     let hall = Hall(&crowd);
@@ -183,23 +148,7 @@ fn a_long_request_costs_no_peer_its_turn(rt: HostRuntime) -> Result<(), Fail> {
         (0, Piece::Text(b"GET /2 HT")),
         (4000, Piece::Text(b"TP/1.1\r\n\r\n")),
     ];
-    const PEERS: &[Peer] = &[
-        Peer {
-            times: 1,
-            at: 0,
-            pieces: LATER,
-        },
-        Peer {
-            times: 1,
-            at: 0,
-            pieces: ONE,
-        },
-        Peer {
-            times: 1,
-            at: 7000,
-            pieces: ONE,
-        },
-    ];
+    const PEERS: &[Peer] = crowd_of![(1, 0, LATER), (1, 0, ONE), (1, 7000, ONE),];
     for reports in [Reports::All, Reports::Nothing] {
         let crowd = Crowd::new(rt.alloc(), PEERS);
         crowd.reports.set(reports);
@@ -217,14 +166,11 @@ fn a_long_request_costs_no_peer_its_turn(rt: HostRuntime) -> Result<(), Fail> {
 // The time limit of a message starts when its connection is accepted.
 #[test]
 fn a_late_connection_has_its_whole_time(rt: HostRuntime) -> Result<(), Fail> {
-    const PEERS: &[Peer] = &[Peer {
-        times: 1,
-        at: 0,
-        pieces: &[
-            (0, Piece::Text(b"GET /2 HT")),
-            (24_900, Piece::Text(b"TP/1.1\r\n\r\n")),
-        ],
-    }];
+    const LATE: &[(u64, Piece)] = &[
+        (0, Piece::Text(b"GET /2 HT")),
+        (24_900, Piece::Text(b"TP/1.1\r\n\r\n")),
+    ];
+    const PEERS: &[Peer] = crowd_of![(1, 0, LATE)];
     let crowd = Crowd::new(rt.alloc(), PEERS);
     crowd.accept_takes.set(20_000);
     let hall = Hall(&crowd);
@@ -238,19 +184,14 @@ fn a_late_connection_has_its_whole_time(rt: HostRuntime) -> Result<(), Fail> {
 // A reader returns the received bytes, in pieces of any size.
 #[test]
 fn bytes_come_as_they_were_sent(rt: HostRuntime) -> Result<(), Fail> {
-    const PEERS: &[Peer] = &[Peer {
-        times: 1,
-        at: 0,
-        pieces: &[
-            (
-                0,
-                Piece::Text(b"POST / HTTP/1.1\r\nContent-Length: 20000\r\n\r\n"),
-            ),
-            (300, Piece::Many(10_000)),
-            (600, Piece::Many(9997)),
-            (900, Piece::Text(b"end of another")),
-        ],
-    }];
+    const HEAD: &[u8] = b"POST / HTTP/1.1\r\nContent-Length: 20000\r\n\r\n";
+    const PIECES: &[(u64, Piece)] = &[
+        (0, Piece::Text(HEAD)),
+        (300, Piece::Many(10_000)),
+        (600, Piece::Many(9997)),
+        (900, Piece::Text(b"end of another")),
+    ];
+    const PEERS: &[Peer] = crowd_of![(1, 0, PIECES)];
     for size in [1, 7, 8192, 60_000] {
         let crowd = Crowd::new(rt.alloc(), PEERS);
         let hall = Hall(&crowd);
@@ -269,7 +210,7 @@ fn bytes_come_as_they_were_sent(rt: HostRuntime) -> Result<(), Fail> {
         assert_eq!(rt; crowd.now(), 1000);
         // Only the message is read. Its head has 42 bytes.
         assert_eq!(rt; bytes.len(), 20_042);
-        assert_eq!(rt; crowd.count_read(0), 20_042);
+        assert_eq!(rt; crowd.first_read.get(), 20_042);
         assert!(rt; bytes.starts_with(b"POST / HTTP/1.1\r\n"));
         assert!(rt; bytes.ends_with(b"end"));
     }
@@ -279,12 +220,7 @@ fn bytes_come_as_they_were_sent(rt: HostRuntime) -> Result<(), Fail> {
 // The 10 s of a response start with its first write, and aren't restarted.
 #[test]
 fn a_reply_has_its_time_once(rt: HostRuntime) -> Result<(), Fail> {
-    const PEERS: &[Peer] = &[Peer {
-        times: 1,
-        at: 0,
-        pieces: ONE,
-    }];
-    let crowd = Crowd::new(rt.alloc(), PEERS);
+    let crowd = Crowd::new(rt.alloc(), ONE_PEER);
     let hall = Hall(&crowd);
     let (_message, mut reply) = Loopback::listen(&hall, 1)?.next()?;
     crowd.pass(30_000);
@@ -300,13 +236,8 @@ fn a_reply_has_its_time_once(rt: HostRuntime) -> Result<(), Fail> {
 // only if its time is over.
 #[test]
 fn a_signal_ends_no_reply(rt: HostRuntime) -> Result<(), Fail> {
-    const PEERS: &[Peer] = &[Peer {
-        times: 1,
-        at: 0,
-        pieces: ONE,
-    }];
     for (signals, millis, is_taken) in [(2, 4900, true), (4, 4000, false)] {
-        let crowd = Crowd::new(rt.alloc(), PEERS);
+        let crowd = Crowd::new(rt.alloc(), ONE_PEER);
         let hall = Hall(&crowd);
         let (_message, mut reply) = Loopback::listen(&hall, 1)?.next()?;
         crowd
@@ -319,18 +250,13 @@ fn a_signal_ends_no_reply(rt: HostRuntime) -> Result<(), Fail> {
 
 #[test]
 fn a_connection_is_asked_for_fifty_times(rt: HostRuntime) -> Result<(), Fail> {
-    const PEERS: &[Peer] = &[Peer {
-        times: 1,
-        at: 0,
-        pieces: ONE,
-    }];
     let often = [
         (49, ErrorKind::Other, None),
         (50, ErrorKind::Other, Some(NextFault::Device)),
         (50, ErrorKind::OutOfMemory, Some(NextFault::Memory)),
     ];
     for (faults, kind, fault) in often {
-        let crowd = Crowd::new(rt.alloc(), PEERS);
+        let crowd = Crowd::new(rt.alloc(), ONE_PEER);
         crowd.faults.set((faults, kind));
         let hall = Hall(&crowd);
         let refused = match Loopback::listen(&hall, 1)?.next() {
