@@ -5,7 +5,7 @@
  * that fails, is killed or takes over 60 seconds, and then how many allocations were asked for, refused, and failed so. The program itself
  * is refused nothing. It may have one thread, and no file or socket that a child would share.
  *
- * LASTING: if it is set, all later allocations of a child are refused too.
+ * LASTING: if set, all later allocations of the child also fail.
  *
  * AT: with no STEP, the number of the one allocation that the program itself is refused; it is killed behind 60 seconds.
  */

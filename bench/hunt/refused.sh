@@ -1,12 +1,16 @@
 #!/usr/bin/env bash
-# Refuses each allocation of the tests of `trials`, `table_trials` and `socket_trials::memory` in turn, each in a child of the test that is made
-# there and goes on to the end. It fails where such a child fails, is killed, or takes over 60 seconds, and names those. A word given here picks
-# the tests whose names have it: bench/run refused memory:: picks those of single calls and of connections, and bench/run refused refused::
-# those over both stores. Of a test that asks for more than 100,000, it refuses some 2000, evenly spread. In the tests of `socket_trials` it then
-# refuses each allocation together with all later ones. The tests of files in a folder of their own are run anew for each allocation, and such a
-# run may end by saying that it is out of memory. It leaves out the tests of files that stop at each call or stay, of damaged tables, of earlier
-# versions served, of a file next to its WAL, of a damaged WAL, of power cuts, of a file behind a socket, and of a file system that says itself
-# that memory is refused, and the other tests of `socket_trials`: these fail if it is.
+# Makes each allocation of most tests of `trials` and `table_trials`, and of the tests in `socket_trials::memory`, fail in turn. It fails in a
+# child of the test, which then runs to its end. The script lists the children that fail, are killed or take over 60 seconds, and fails if there
+# is one.
+#
+# A word selects the tests whose names contain it: `memory::` selects those of single calls and of connections, and `refused::` those over both
+# stores. If a test makes more than 100,000 allocations, about 2,000 of them are selected, evenly spread. In `socket_trials::memory` first only
+# this allocation fails, and then also all later ones. A test with files in a folder of its own runs again for each allocation, and may end with
+# the error that it is out of memory.
+#
+# These tests fail if an allocation fails, and are left out: those of a stop at each call, of damaged tables, of earlier versions that are served,
+# of a file next to its WAL, of a damaged WAL, of power cuts, of a file behind a socket, of a file system that reports failed allocations itself,
+# and the other tests of `socket_trials`.
 set -euo pipefail
 cd "$(dirname "$0")/../.."
 folder=$(mktemp -d)
@@ -15,26 +19,26 @@ cc -O2 -shared -fPIC -o "$folder/refused.so" bench/hunt/refused.c
 ulimit -c 0
 touch "$folder/failed"
 
-# Refuses one in so many allocations of a test. The report's last line says how many it asks for, how many were refused, and how many failed.
+# Makes one in $2 allocations of the test $1 fail. Prints the number of its allocations, of those that failed, and of the children that failed.
 refuse() {
     LD_PRELOAD=$folder/refused.so STEP=$2 JOBS=$(nproc) REPORT=$folder/report "$program" "$1" >/dev/null
     tail -n 1 "$folder/report"
 }
 
-# Refuses each of so many allocations of a test in a run of its own, whose folder no other run has. Prints as `refuse` does.
+# Makes each of the $2 allocations of the test $1 fail, in a run with a folder of its own. Prints what `refuse` prints.
 refuse_alone() {
     seq "$2" | xargs -P "$(nproc)" -n 100 bash -c 'run_alone "$@"' "$1" >"$folder/wrong"
     cat "$folder/wrong" >>"$folder/failed"
     echo "$2 $2 $(wc -l <"$folder/wrong")"
 }
 
-# Refuses as `refuse` does, and keeps the numbers of the allocations that failed.
+# Does what `refuse` does, and lists the children that failed.
 refuse_each() {
     refuse "$@"
     sed -n "s/^allocation /$1: &/p" "$folder/report" >>"$folder/failed"
 }
 
-# The test that is named first is refused the allocations of these numbers, each in one run. Prints those that end wrong.
+# Runs the test $0 once for each of the given allocations, which fails. Prints the runs that end wrongly.
 run_alone() {
     local at room said
     room=$(mktemp -d "$folder/room.XXXXXX")
