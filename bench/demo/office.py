@@ -346,7 +346,7 @@ class Office:
         self.folder.lock()
         if self.folder.pending:
             is_same = asks_of(self.folder.pending) == asks
-            status = self.finish(repeated=True)
+            status = self.send(is_same)
             if is_same and status is not None:
                 return status
         for _ in range(TRIES):
@@ -355,6 +355,15 @@ class Office:
             if status is not None:
                 return status
         raise Stop(3, "another program releases the numbers of this client")
+
+    def send(self, is_same: bool = False) -> Optional[int]:
+        """Sends the pending requests of an earlier call. Returns None if none was decided."""
+        subject = self.folder.pending[-1].subject()
+        note(f"the requests of {self.folder.since} have no reply, and are sent again")
+        status = self.finish(repeated=True)
+        if status is None and not is_same:
+            note(f"{subject}: no request was decided; if it is still wanted, repeat its command")
+        return status
 
     def of_office(self, asks: list[tuple[str, str, str]]) -> list[Request]:
         """Numbers requests of the office. White space in the release shows a used number: 72."""
@@ -375,9 +384,7 @@ class Office:
         return [Request(machine, number, tail, body)]
 
     def finish(self, repeated: bool) -> Optional[int]:
-        """Sends the pending requests and prints the results. Returns None for new numbers."""
-        if repeated:
-            note(f"the requests of {self.folder.since} have no reply, and are sent again")
+        """Sends the pending requests and prints the results. Returns None if none was decided."""
         line = Line(self.given, self.folder.server)
         replies: list[Reply] = []
         for request in self.folder.pending:
@@ -775,9 +782,11 @@ def remind(office: Office) -> None:
 
 
 def pending(office: Office, given: argparse.Namespace) -> int:
-    office.folder.lock()
+    if given.send or given.forget:
+        office.folder.lock()
+    office.folder.read()
     if office.folder.pending and given.send:
-        return office.finish(repeated=True) or 0
+        return office.send() or 0
     for request in office.folder.pending:
         place = f"{office.folder.server} /c/{request.client}/{request.number}"
         print(f"{place}: {request.members()['do']}, {request.subject()}")

@@ -629,7 +629,9 @@ def waits(program: str, _: str, folder: pathlib.Path, __: argparse.Namespace) ->
     expect("a finished batch", tool.done("account", "B1", "--wait").splitlines()[-1], "all records are good or withdrawn, and the batch is open")
     server.kill()
     first = tool.start("close", "B1", patience=20)
-    wait_for(lambda: "close" in tool.run("pending").printed or "another" in tool.run("pending").errors)
+    state = folder / "state" / "state.json"
+    wait_for(lambda: json.loads(state.read_text())["pending"] != [])
+    expect("the pending requests", [line.split()[2:] for line in tool.done("pending").splitlines()][1:], [["close,", "batch", "B1"]])
     second = tool.run("close", "B1")
     expect("a second call", (second.status, "another office.py uses the folder" in second.errors), (3, True))
     again = Server(program, folder / "shop.db", server.port)
