@@ -7,9 +7,9 @@
     python3 bench/demo/office.py remake B1 R7
 
 If a command is killed or gets no reply, repeat it. It takes effect only once: before its requests
-are sent, their numbers and bytes are stored in the state folder. The next call of any command
-first sends them again. All other calls use new request numbers, and first release all earlier
-ones. No other program may use the client name.
+are sent, their numbers and bytes are stored in the state folder, and the next call sends them
+again. After their replies, even the same words get new request numbers, and the earlier ones are
+released. No other program may use the client name.
 
 Until a batch file has its reply, the state folder contains a copy of it, with its card data.
 
@@ -187,9 +187,7 @@ class Line:
 
     def __init__(self, given: argparse.Namespace, server: str) -> None:
         self.server, self.patience = server, given.patience
-        self.place = urllib.parse.urlsplit(server)
-        if self.place.scheme not in ("http", "https") or not self.place.hostname:
-            raise Stop(2, f"value of --server is {server}, and must be http://HOST:PORT")
+        self.place = place_of(server)
         if self.place.scheme == "https":
             self.context = ssl.create_default_context(cafile=given.authority)
             if given.certificate:
@@ -243,11 +241,39 @@ class Line:
 
     def read(self, path: str) -> str:
         """Returns the text of an account or a report."""
-        status, text, _ = self.insist("GET", path)
+        return self.accepted(path, *self.insist("GET", path)[:2])
+
+    def account(self, path: str) -> dict[str, Any]:
+        return self.parsed(path, self.read(path))
+
+    def account_now(self, path: str) -> Optional[dict[str, Any]]:
+        """Returns the account, or None if one try brings no reply."""
+        came = self.exchange("GET", path)
+        return self.parsed(path, self.accepted(path, *came)) if came else None
+
+    def accepted(self, path: str, status: int, text: str) -> str:
         if status != 200:
             code = Reply(Request("", 0, "", ""), status, text, False).code()
             raise Stop(1, f"GET {path}: refused {code}. {sentence(code)}")
         return text
+
+    def parsed(self, path: str, text: str) -> dict[str, Any]:
+        try:
+            return json.loads(text)
+        except ValueError:
+            raise Stop(3, f"{self.server}{path} isn't an account of persod") from None
+
+
+def place_of(server: str) -> urllib.parse.SplitResult:
+    """Returns the parts of the value of --server."""
+    place = urllib.parse.urlsplit(server)
+    is_whole = place.scheme in ("http", "https") and place.hostname and place.path in ("", "/")
+    try:
+        if is_whole and place.port != 0:
+            return place
+    except ValueError:
+        pass
+    raise Stop(2, f"value of --server is {server}, and must be http://HOST:PORT or https://..")
 
 
 def note(text: str) -> None:
@@ -269,7 +295,9 @@ class Folder:
 
     def lock(self) -> None:
         """Locks the folder until this process exits, and reads it."""
-        self.path.mkdir(mode=0o700, parents=True, exist_ok=True)
+        if not self.path.exists():
+            self.path.mkdir(mode=0o700, parents=True, exist_ok=True)
+            sync(self.path.parent)
         self.held = (self.path / "lock").open("a")
         try:
             fcntl.flock(self.held, fcntl.LOCK_EX | fcntl.LOCK_NB)
@@ -299,7 +327,6 @@ class Folder:
             os.fsync(file.fileno())
         os.replace(new, self.file)
         sync(self.path)
-        sync(self.path.parent)
 
     def begin(self, server: str, requests: list[Request]) -> None:
         """Stores these requests as pending."""
@@ -345,7 +372,7 @@ class Office:
         """Finishes the pending requests. Unless they are these, sends these under new numbers."""
         self.folder.lock()
         if self.folder.pending:
-            is_same = asks_of(self.folder.pending) == asks
+            is_same = (self.folder.server, asks_of(self.folder.pending)) == (self.line.server, asks)
             status = self.send(is_same)
             if is_same and status is not None:
                 return status
@@ -359,7 +386,7 @@ class Office:
     def send(self, is_same: bool = False) -> Optional[int]:
         """Sends the pending requests of an earlier call. Returns None if none was decided."""
         subject = self.folder.pending[-1].subject()
-        note(f"the requests of {self.folder.since} have no reply, and are sent again")
+        note(f"the requests of {self.folder.since} have no reply: sending them again")
         status = self.finish(repeated=True)
         if status is None and not is_same:
             note(f"{subject}: no request was decided; if it is still wanted, repeat its command")
@@ -393,13 +420,17 @@ class Office:
                 break
         for reply in replies:
             self.learn(reply)
-        status = None if is_unsent(replies[0], repeated) else told(line, replies)
+        status = None
+        if not is_unsent(replies[0], repeated):
+            status = told(line, replies)
+            for request in self.folder.pending[len(replies) :]:
+                print(f"{request.subject()}: not sent", flush=True)
         self.folder.end()
         return status
 
     def replied(self, line: Line, request: Request, repeated: bool) -> Reply:
         """Sends a request until it has a reply. A proxy's response doesn't end a sent one."""
-        again = "the request is stored: repeat the command, or run 'pending --send'"
+        again = "the request is stored: repeat the command, or see 'pending --help'"
         try:
             reply = line.post(request, repeated)
         except Stop as stop:
@@ -480,7 +511,7 @@ def counted(count: int, noun: str) -> str:
 def further(reply: Reply) -> list[str]:
     """Returns further lines about a refusal: the place of a fault, or the next step."""
     if reply.code() == 72 and reply.request.is_release():
-        return ["  Another program uses this client name. The command was not sent: repeat it."]
+        return ["  Another program uses this client name. Repeat the command."]
     if reply.code() != 73:
         return fault_lines(reply)
     if reply.request.members()["do"] == "reset":
@@ -675,10 +706,7 @@ def wait(line: Line, batch: str, seconds: float) -> int:
     """Shows the progress of a batch until no record is waiting or running."""
     shown = ""
     while True:
-        came = line.exchange("GET", f"/batch/{batch}")
-        if came and came[0] != 200:
-            came = 200, line.read(f"/batch/{batch}")
-        account = json.loads(came[1]) if came else None
+        account = line.account_now(f"/batch/{batch}")
         text = bar(account) if account else f"{batch}: no reply from {line.server}"
         show(text, shown)
         shown = text
@@ -759,13 +787,13 @@ def account(office: Office, given: argparse.Namespace) -> int:
     remind(office)
     if given.wait:
         return wait(office.line, given.batch, given.every)
-    print(account_text(json.loads(office.line.read(f"/batch/{given.batch}"))))
+    print(account_text(office.line.account(f"/batch/{given.batch}")))
     return 0
 
 
 def blanks(office: Office, given: argparse.Namespace) -> int:
     remind(office)
-    print(blanks_text(json.loads(office.line.read(f"/blanks/{given.product}"))))
+    print(blanks_text(office.line.account(f"/blanks/{given.product}")))
     return 0
 
 
@@ -941,7 +969,8 @@ def add_reads(commands: Commands) -> None:
     commands.add_waiting(account, "print the account of a batch", "batch")
     commands.add(blanks, "print the account of a product's blanks", "product")
     commands.add(report, "print the report of a batch, with the states of records", "batch")
-    words = commands.add(pending, "print the requests that have no reply")
+    words = commands.add(
+        pending, "print the requests that have no reply, which the next call sends again")
     words = words.add_mutually_exclusive_group()
     words.add_argument("--send", action="store_true", help="send them again (default: off)")
     words.add_argument(
