@@ -261,18 +261,18 @@ def ended(machine: str) -> str:
 def steps(given: argparse.Namespace, folder: pathlib.Path) -> str:
     server = Server(given.program, folder / "shop.db", free_port())
     hall, tool, counts = Hall(server.port), Tool(folder / "state", server.port), Counter()
+    done: Counter = Counter()
     stock(hall, 100)
-    all_kinds = Kinds(hall, folder).all()
-    for name, kind in all_kinds.items():
+    for name, kind in Kinds(hall, folder).all().items():
         for k in range(1, 100):
             if killed_and_again(tool, name, kind, k, counts):
                 break
-        counts[name] = k
-    expect("remakes", count_remakes(folder / "shop.db"), counts["remake"])
+        done[name] = k
+    check_accounts(hall, done, 100)
     server.kill()
-    is_sound(given.shopbook, folder / "shop.db")
+    check_book(given.shopbook, folder / "shop.db", done)
     final = f"{counts['after the result']} of them after the final result"
-    return f"{len(all_kinds)} kinds of commands, {counts['kills']} kills, {final}"
+    return f"{len(done)} kinds of commands, {counts['kills']} kills, {final}"
 
 
 def killed_and_again(tool: Tool, name: str, kind: Kind, k: int, counts: Counter) -> bool:
