@@ -33,7 +33,10 @@ class Machine:
     def ask(self, request, end=""):
         """The reply to a request under a number of its own. While there is none, the same bytes go again under the same number."""
         self.number += 1
-        body = (json.dumps(request) + end).encode()
+        return self.repeat((json.dumps(request) + end).encode())
+
+    def repeat(self, body):
+        """Sends these bytes under the present number until there is a reply."""
         for tried in range(TRIES):
             reply = self.send(body)
             if reply is not None:

@@ -1,0 +1,393 @@
+#!/usr/bin/env python3
+"""Makes 50 cards by bench/demo/driver_pcsc.py over pcscd, in two virtual readers.
+
+    bench/run pcsc [--cards N] [--seed N]
+
+Two machines share a batch of realistic records. Their cards use T=0 and T=1 in turn. Some cards
+answer 61XX, spoil their session, are mute, or are pulled out before or after an answer. Some can't
+be read, and some belong to no lot, to another product, or are discarded. The server and the drivers
+are killed at random, and at chosen commands and moves of a card. Replies are lost. The office has
+each failed record made again, until all of them are good.
+
+Then each card is judged by what it received:
+
+- A good card received exactly the commands of one record, in order, and has the data of this record
+  in the batch file. No customer has two good cards, and the trays agree with the server.
+- Any other card with a session received the beginning of a record, and is among the rejects.
+- A card without a session received nothing, and is free to be fed again unless it is a stray one.
+- `shopbook`, the report and the accounts agree with the trays about each blank.
+
+In the end faults are planted in what was found, and the judge has to find each of them.
+
+Needs Debian's pcscd, libpcsclite1, vsmartcard-vpcd and iproute2, and root or user namespaces: all
+runs in namespaces of its own, since vpcd accepts cards from the network. If something is missing,
+the exit status is 77, and ./soak prints `skipped`."""
+import argparse
+import atexit
+import ctypes
+import json
+import os
+import pathlib
+import random
+import shutil
+import subprocess
+import sys
+import tempfile
+import threading
+import time
+from collections import Counter
+from typing import Optional
+
+from card import GOOD, Card, Magazine
+from make_batch import card as record_rows
+from pcsc_judge import Evidence, book, judged, overlooked, plans_of, rows_of, sessions_of, tray_of
+from served import Server, Stopped, exchange, free_port, get, imported, parts
+from shop import HEADER, Client, Shop
+from winscard import Failed, Reader
+
+SKIPPED = 77
+IN_NAMESPACE = "--in-namespace"
+PATH = f"{os.environ.get('PATH', '')}:/usr/sbin:/sbin"
+VPCD = pathlib.Path("/usr/lib/pcsc/drivers/serial/libifdvpcd.so")
+DRIVER = pathlib.Path(__file__).resolve().parents[1] / "demo" / "driver_pcsc.py"
+READER = "Virtual reader"
+PORT = 35963
+CONFIGURATION = f"""FRIENDLYNAME "{READER}"
+DEVICENAME /dev/null:{PORT}
+LIBPATH {VPCD}
+CHANNELID {PORT}
+"""
+# One reader of vpcd has two slots. Several readers would share their slots.
+MACHINES = 2
+FIRST, FOREIGN, UNKNOWN = 1000, 500_000, 900_000
+BLANKS = 4  # in each magazine, for each good card
+LOSE = 15
+SECONDS = 900
+STOPS = ("6A80", "6283", "6F00", "6C05", "6985")
+
+
+# ---- what it needs
+
+
+def lacking() -> list[str]:
+    """What this machine lacks."""
+    found = [name for name in ("pcscd", "ip") if not shutil.which(name, path=PATH)]
+    found += [] if VPCD.exists() else ["vpcd"]
+    try:
+        ctypes.CDLL("libpcsclite.so.1")
+    except OSError:
+        found.append("libpcsclite.so.1")
+    if subprocess.run([*namespaces(), "true"], capture_output=True).returncode:
+        found.append("root or user namespaces")
+    return found
+
+
+def namespaces() -> list[str]:
+    """The command that gives a program its own network and mounts."""
+    mapped = [] if os.geteuid() == 0 else ["--map-root-user"]
+    return ["unshare", "--net", "--mount", *mapped]
+
+
+def prepare() -> None:
+    """Sets up loopback, and a folder for the socket of pcscd."""
+    for words in (("ip", "link", "set", "lo", "up"), ("mount", "-t", "tmpfs", "pcsc", "/run")):
+        subprocess.run(words, check=True, env={**os.environ, "PATH": PATH})
+    pathlib.Path("/run/pcscd").mkdir()
+
+
+# ---- the shop
+
+
+class Floor:
+    """What all parts share."""
+
+    def __init__(self, given: argparse.Namespace, folder: pathlib.Path) -> None:
+        self.persod, self.seed, self.folder = given.persod, given.seed, folder
+        self.database, self.port = folder / "shop.db", free_port()
+        self.is_over, self.counts, self.wrong = threading.Event(), Counter(), []
+
+    def draw(self, *words: object) -> random.Random:
+        return random.Random("/".join(map(str, (self.seed, *words))))
+
+
+class Keeper(threading.Thread):
+    """Starts the server again whenever it ends."""
+
+    def __init__(self, floor: Floor) -> None:
+        super().__init__(daemon=True)
+        self.floor, self.server = floor, Server(floor.persod, floor.database, floor.port)
+        self.has_ended = False
+
+    def run(self) -> None:
+        while True:
+            self.server.process.wait()
+            if self.has_ended:
+                return
+            try:
+                self.server = Server(self.floor.persod, self.floor.database, self.floor.port)
+            except Stopped as wrong:
+                if wrong.status != -9:
+                    self.floor.wrong.append(f"the server: {wrong}")
+                    return
+
+    def kill(self) -> None:
+        self.floor.counts["kills of the server"] += 1
+        self.server.process.kill()
+
+    def stop(self) -> None:
+        self.has_ended = True
+        self.server.process.kill()
+        self.join()
+
+
+class Station(threading.Thread):
+    """A machine: its magazine, its reader, and its driver, which is started again and again."""
+
+    def __init__(self, floor: Floor, place: int, cards: list[Card], keeper: Keeper) -> None:
+        super().__init__(daemon=True)
+        self.floor, self.machine, self.keeper = floor, f"m{place + 1}", keeper
+        self.process: Optional[subprocess.Popen[bytes]] = None
+        handler = floor.folder / f"{self.machine}.handler"
+        self.magazine = Magazine(PORT + place, handler, cards, self.kill)
+        words = [floor.port, self.machine, "B1", reader_name(place), handler, "--lose", LOSE]
+        words += ["--state", floor.folder / f"{self.machine}.state"]
+        self.words = [sys.executable, "-B", str(DRIVER), *map(str, words)]
+
+    def kill(self, what: str) -> None:
+        """Kills the server, or this driver."""
+        if what == "server":
+            return self.keeper.kill()
+        if self.process and self.process.poll() is None:
+            self.floor.counts["kills of a driver"] += 1
+            self.process.kill()
+            self.process.wait()
+
+    def run(self) -> None:
+        """Ends after a driver that ends by itself once all records are good."""
+        self.magazine.start()
+        said = self.floor.folder / f"{self.machine}.said"
+        while not self.floor.wrong:
+            is_last = self.floor.is_over.is_set()
+            with said.open("ab") as output:
+                self.process = subprocess.Popen(self.words, stdout=output, stderr=output)
+                status = self.process.wait()
+            self.floor.counts["starts of a driver"] += 1
+            if status not in (0, -9) or not self.magazine.is_alive():
+                lines = said.read_text().splitlines()[-5:]
+                self.floor.wrong.append("\n".join([f"{self.machine}: status {status}", *lines]))
+            if status == 0:
+                if is_last:
+                    return
+                time.sleep(0.3)
+
+
+def reader_name(place: int) -> str:
+    return f"{READER} 00 {place:02}"
+
+
+def faults_of(draw: random.Random) -> dict[object, str]:
+    """What goes wrong with a card: nothing with a third of the cards. Many answer 61XX."""
+    faults: dict[object, str] = {place: "6110" for place in range(60) if draw.random() < 0.1}
+    place, pick = draw.choice((0, 1, 2, 3, draw.randrange(40))), draw.random()
+    if pick < 0.12:
+        faults[place] = draw.choice(STOPS)
+    elif pick < 0.32:
+        faults[place] = draw.choice(("pull", "gone", "short", "mute"))
+    elif pick < 0.5:
+        faults[place] = draw.choice(("driver", "server"))
+    elif pick < 0.66:
+        faults[draw.choice(("in", "out", "moved"))] = "driver"
+    return faults
+
+
+def cards_for(floor: Floor, place: int, count: int) -> list[Card]:
+    """The cards of a machine. Each twelfth one is a stray, or can't be read."""
+    cards = []
+    for number in range(count):
+        draw, serial = floor.draw("card", place, number), FIRST + place * count + number
+        faults = faults_of(draw)
+        if number % 12 == 5:
+            serial = draw.choice((FOREIGN, UNKNOWN)) + place * count + number
+            faults = {}
+        elif number == 10:
+            faults = {"in": "dead"}
+        cards.append(Card(serial, number % 2, faults))
+    return cards
+
+
+def batch_of(floor: Floor, records: int) -> str:
+    lines = [HEADER]
+    for place in range(1, records + 1):
+        draw = floor.draw("record", place)
+        lines += record_rows(draw, f"R{place}", draw.choice((1, 2)))
+    return "".join(f"{line}\n" for line in lines)
+
+
+def stock(office: Client, batch: str, blanks: int, discarded: set[int]) -> None:
+    for product in ("P1", "P2"):
+        office.ask(do="product", product=product, max=255, low=0, check=True)
+    office.ask(do="lot", lot="L1", product="P1", first=FIRST, count=blanks)
+    office.ask(do="lot", lot="L2", product="P2", first=FOREIGN, count=blanks)
+    for blank in sorted(discarded):
+        office.ask(do="discard", blank=blank)
+    office.send(imported(office.name, office.number + 1, "B1", "P1", batch.encode()))
+
+
+def report(shop: Shop) -> list[list[str]]:
+    """The records of the close report: name, state, sessions, blank."""
+    _, text = shop.ask("", 0, get("/batch/B1/report"), is_first=False)
+    return [line.split(" ")[1:] for line in text.splitlines() if line.startswith("record ")]
+
+
+def make_all(floor: Floor, office: Client, keeper: Keeper, stations: list[Station]) -> None:
+    """Has failed records made again, and kills at random, until all records are good."""
+    draw, end = floor.draw("kills"), time.monotonic() + SECONDS
+    next_kill = time.monotonic() + draw.uniform(2, 6)
+    while not floor.wrong:
+        states = report(office.shop)
+        if all(state == "good" for _, state, *_ in states):
+            return
+        for record, state, *_ in states:
+            if state == "failed":
+                office.ask(do="remake", batch="B1", record=record)
+                floor.counts["remakes"] += 1
+        if time.monotonic() > end:
+            floor.wrong.append(f"after {SECONDS} s some records aren't good: {states}")
+        if time.monotonic() > next_kill:
+            draw.choice([keeper.kill, lambda: draw.choice(stations).kill("driver")])()
+            next_kill = time.monotonic() + draw.uniform(2, 6)
+        time.sleep(0.2)
+
+
+# ---- the run
+
+
+def start_pcscd(folder: pathlib.Path) -> subprocess.Popen[bytes]:
+    """Starts pcscd, and waits until it knows the readers."""
+    readers = folder / "readers"
+    readers.mkdir()
+    (readers / "vpcd").write_text(CONFIGURATION)
+    words = [shutil.which("pcscd", path=PATH) or "", "--foreground", "--critical", "--config"]
+    process = subprocess.Popen([*words, str(readers)], stdin=subprocess.DEVNULL)
+    atexit.register(process.kill)
+    for _ in range(100):
+        time.sleep(0.1)
+        try:
+            for place in range(MACHINES):
+                Reader(reader_name(place)).is_present()
+            return process
+        except Failed as wrong:
+            why = wrong
+    sys.exit(f"pcscd: {why}")
+
+
+def account(port: int, target: str) -> dict[str, int]:
+    return json.loads((parts(exchange(port, get(target))) or (0, b"{}"))[1])
+
+
+def run(given: argparse.Namespace, folder: pathlib.Path) -> int:
+    begun, floor = time.monotonic(), Floor(given, folder)
+    pcscd, keeper = start_pcscd(folder), Keeper(floor)
+    keeper.start()
+    each = BLANKS * given.cards
+    cards = [cards_for(floor, place, each) for place in range(MACHINES)]
+    discarded = {FIRST + place * each + 8 for place in range(MACHINES)}
+    office = Client(Shop(floor.port), "office", str(given.seed))
+    batch = batch_of(floor, given.cards)
+    stock(office, batch, MACHINES * each, discarded)
+    stations = [Station(floor, place, list(cards[place]), keeper) for place in range(MACHINES)]
+    for station in stations:
+        station.start()
+    make_all(floor, office, keeper, stations)
+    floor.is_over.set()
+    for station in stations:
+        station.join()
+    accounts = [account(floor.port, target) for target in ("/blanks/P1", "/batch/B1")]
+    named = {record: int(blank) for record, _, _, blank in report(office.shop) if blank != "-"}
+    keeper.stop()
+    pcscd.kill()
+    if floor.wrong:
+        print("\n".join(floor.wrong))
+        return 1
+    evidence = evidence_of(given, floor, batch, [*cards[0], *cards[1]], discarded)
+    evidence.report, evidence.batch = named, accounts[1]
+    evidence.accounts.append(accounts[0])
+    return judge(floor, evidence, time.monotonic() - begun)
+
+
+def evidence_of(
+    given: argparse.Namespace, floor: Floor, batch: str, cards: list[Card], discarded: set[int]
+) -> Evidence:
+    """What the cards and `shopbook` say."""
+    blanks = book(given.shopbook, floor.database, "blanks", "--product", "P1")
+    names = ("lots", "total", "free", "good", "running", "spoiled", "discarded")
+    [sums] = [dict(zip(names, map(int, line[1:]))) for line in blanks if line[0] == "sums"]
+    sessions = sessions_of(book(given.shopbook, floor.database, "cards", "--batch", "B1"))
+    return Evidence(
+        cards=cards,
+        rows=rows_of(batch),
+        plans=plans_of(given.persod, batch),
+        strays=discarded | {card.serial for card in cards if card.serial >= FOREIGN},
+        unread={card.serial for card in cards if "dead at in" in card.met},
+        discarded=discarded,
+        total=MACHINES * BLANKS * given.cards,
+        sessions=sessions,
+        blanks={int(line[1]): (line[3], line[4]) for line in blanks if line[0] == "blank"},
+        report={},
+        accounts=[sums],
+        batch={},
+    )
+
+
+def judge(floor: Floor, evidence: Evidence, seconds: float) -> int:
+    """Prints what happened, and every fault."""
+    met = Counter(fault for card in evidence.cards for fault in card.met)
+    moved = Counter(
+        event.what for card in evidence.cards for event in card.events if event.kind == "tray"
+    )
+    commands = [e for card in evidence.cards for e in card.events if e.kind == "command"]
+    good = [card for card in evidence.cards if tray_of(card) == GOOD]
+    figures = {
+        "good cards with T=0": sum(card.protocol == 0 for card in good),
+        "good cards with T=1": sum(card.protocol == 1 for card in good),
+        **{f"moves to {tray}": count for tray, count in sorted(moved.items())},
+        "commands that cards received": len(commands),
+        **floor.counts,
+        **{f"cards with {fault}": count for fault, count in sorted(met.items())},
+        "seconds": round(seconds),
+    }
+    for what, count in figures.items():
+        print(f"{count:>8}  {what}")
+    faults = judged(evidence)
+    faults += [f"the judge overlooks {name}" for name in overlooked(evidence)] if not faults else []
+    for fault in faults:
+        print("FAULT", fault)
+    print(f"{len(faults)} faults" if faults else "no faults, and the judge finds planted ones")
+    return 1 if faults else 0
+
+
+def main() -> int:
+    words = argparse.ArgumentParser(
+        description=__doc__, formatter_class=argparse.RawDescriptionHelpFormatter
+    )
+    words.add_argument("persod")
+    words.add_argument("shopbook")
+    words.add_argument("--cards", type=int, default=50)
+    words.add_argument("--seed", type=int, default=1)
+    words.add_argument(IN_NAMESPACE, action="store_true")
+    given = words.parse_args()
+    if given.in_namespace:
+        prepare()
+        os.environ.pop("PERSOD_LOG", None)
+        with tempfile.TemporaryDirectory() as folder:
+            return run(given, pathlib.Path(folder))
+    if missing := lacking():
+        needs = "Debian's pcscd, libpcsclite1, vsmartcard-vpcd and iproute2"
+        print(f"pcsc: {', '.join(missing)} missing; it needs {needs}", file=sys.stderr)
+        return SKIPPED
+    inside = [*namespaces(), sys.executable, "-B", __file__, *sys.argv[1:], IN_NAMESPACE]
+    return subprocess.run(inside).returncode
+
+
+if __name__ == "__main__":
+    sys.exit(main())
