@@ -22,10 +22,10 @@ In the end faults are planted in what was found, and the judge has to find each 
 Needs Debian's pcscd, libpcsclite1, vsmartcard-vpcd and iproute2, and root or user namespaces: all
 runs in namespaces of its own, since vpcd accepts cards from the network. If something is missing,
 the exit status is 77, and ./soak prints `skipped`."""
+import _thread
 import argparse
 import atexit
 import ctypes
-import json
 import os
 import pathlib
 import random
@@ -36,12 +36,14 @@ import tempfile
 import threading
 import time
 from collections import Counter
-from typing import Optional
+from typing import Any, Optional
 
 from card import GOOD, Card, Magazine
 from make_batch import card as record_rows
-from pcsc_judge import Evidence, book, judged, overlooked, plans_of, rows_of, sessions_of, tray_of
-from served import Server, Stopped, exchange, free_port, get, imported, parts
+from pcsc_judge import (
+    Evidence, blanks_of, judged, overlooked, plans_of, rows_of, sessions_of, tray_of
+)
+from served import Server, free_port, get, imported
 from shop import HEADER, Client, Shop
 from winscard import Failed, Reader
 
@@ -60,7 +62,7 @@ CHANNELID {PORT}
 # One reader of vpcd has two slots. Several readers would share their slots.
 MACHINES = 2
 FIRST, FOREIGN, UNKNOWN = 1000, 500_000, 900_000
-BLANKS = 4  # in each magazine, for each good card
+BLANKS = 30, 4  # in each magazine, and in addition for each good card
 LOSE = 15
 SECONDS = 900
 STOPS = ("6A80", "6283", "6F00", "6C05", "6985")
@@ -116,25 +118,30 @@ class Keeper(threading.Thread):
     def __init__(self, floor: Floor) -> None:
         super().__init__(daemon=True)
         self.floor, self.server = floor, Server(floor.persod, floor.database, floor.port)
-        self.has_ended = False
+        self.has_ended, self.is_up = False, threading.Event()
+        self.is_up.set()
 
     def run(self) -> None:
-        while True:
-            self.server.process.wait()
-            if self.has_ended:
-                return
-            try:
+        while not self.has_ended:
+            _, errors = self.server.process.communicate()
+            self.is_up.clear()
+            status = self.server.process.returncode
+            if status != -9:
+                print(f"the server: status {status}, {errors.decode()}", file=sys.stderr)
+                return _thread.interrupt_main()
+            if not self.has_ended:
                 self.server = Server(self.floor.persod, self.floor.database, self.floor.port)
-            except Stopped as wrong:
-                if wrong.status != -9:
-                    self.floor.wrong.append(f"the server: {wrong}")
-                    return
+                self.is_up.set()
 
     def kill(self) -> None:
-        self.floor.counts["kills of the server"] += 1
-        self.server.process.kill()
+        """Kills the server, unless it is still starting."""
+        if self.is_up.is_set():
+            self.is_up.clear()
+            self.floor.counts["kills of the server"] += 1
+            self.server.process.kill()
 
     def stop(self) -> None:
+        self.is_up.wait()
         self.has_ended = True
         self.server.process.kill()
         self.join()
@@ -223,40 +230,97 @@ def batch_of(floor: Floor, records: int) -> str:
     return "".join(f"{line}\n" for line in lines)
 
 
-def stock(office: Client, batch: str, blanks: int, discarded: set[int]) -> None:
-    for product in ("P1", "P2"):
-        office.ask(do="product", product=product, max=255, low=0, check=True)
-    office.ask(do="lot", lot="L1", product="P1", first=FIRST, count=blanks)
-    office.ask(do="lot", lot="L2", product="P2", first=FOREIGN, count=blanks)
-    for blank in sorted(discarded):
-        office.ask(do="discard", blank=blank)
-    office.send(imported(office.name, office.number + 1, "B1", "P1", batch.encode()))
+class Bureau:
+    """The server, the office and the machines, with all cards."""
 
+    def __init__(self, given: argparse.Namespace, floor: Floor) -> None:
+        self.given, self.floor, self.keeper = given, floor, Keeper(floor)
+        each = BLANKS[0] + BLANKS[1] * given.cards
+        self.blanks = MACHINES * each
+        magazines = [cards_for(floor, place, each) for place in range(MACHINES)]
+        self.cards = [card for cards in magazines for card in cards]
+        self.discarded = {cards[8].serial for cards in magazines}
+        self.batch = batch_of(floor, given.cards)
+        self.office = Client(Shop(floor.port), "office", str(given.seed))
+        self.stations = [
+            Station(floor, place, cards, self.keeper) for place, cards in enumerate(magazines)
+        ]
 
-def report(shop: Shop) -> list[list[str]]:
-    """The records of the close report: name, state, sessions, blank."""
-    _, text = shop.ask("", 0, get("/batch/B1/report"), is_first=False)
-    return [line.split(" ")[1:] for line in text.splitlines() if line.startswith("record ")]
+    def stock(self) -> None:
+        ask = self.office.ask
+        for product, lot, first in (("P1", "L1", FIRST), ("P2", "L2", FOREIGN)):
+            ask(do="product", product=product, max=255, low=0, check=True)
+            ask(do="lot", lot=lot, product=product, first=first, count=self.blanks)
+        for blank in sorted(self.discarded):
+            ask(do="discard", blank=blank)
+        number = self.office.number + 1
+        self.office.send(imported("office", number, "B1", "P1", self.batch.encode()))
 
+    def read(self, target: str) -> Any:
+        """An account, or the text of a report."""
+        return self.office.shop.ask("", 0, get(target), is_first=False)[1]
 
-def make_all(floor: Floor, office: Client, keeper: Keeper, stations: list[Station]) -> None:
-    """Has failed records made again, and kills at random, until all records are good."""
-    draw, end = floor.draw("kills"), time.monotonic() + SECONDS
-    next_kill = time.monotonic() + draw.uniform(2, 6)
-    while not floor.wrong:
-        states = report(office.shop)
-        if all(state == "good" for _, state, *_ in states):
-            return
-        for record, state, *_ in states:
-            if state == "failed":
-                office.ask(do="remake", batch="B1", record=record)
-                floor.counts["remakes"] += 1
-        if time.monotonic() > end:
-            floor.wrong.append(f"after {SECONDS} s some records aren't good: {states}")
-        if time.monotonic() > next_kill:
-            draw.choice([keeper.kill, lambda: draw.choice(stations).kill("driver")])()
-            next_kill = time.monotonic() + draw.uniform(2, 6)
-        time.sleep(0.2)
+    def records(self) -> list[list[str]]:
+        """The records of the close report: name, state, sessions, blank."""
+        lines = self.read("/batch/B1/report").splitlines()
+        return [line.split(" ")[1:] for line in lines if line.startswith("record ")]
+
+    def make_all(self) -> None:
+        """Has failed records made again, and kills at random, until all records are good."""
+        draw, end = self.floor.draw("kills"), time.monotonic() + SECONDS
+        next_kill = time.monotonic() + draw.uniform(2, 6)
+        while not self.floor.wrong:
+            records = self.records()
+            if all(state == "good" for _, state, *_ in records):
+                return
+            for record, state, *_ in records:
+                if state == "failed":
+                    self.office.ask(do="remake", batch="B1", record=record)
+                    self.floor.counts["remakes"] += 1
+            if time.monotonic() > end:
+                self.floor.wrong.append(f"after {SECONDS} s some aren't good: {records}")
+            if time.monotonic() > next_kill:
+                draw.choice(self.stations).kill(draw.choice(("driver", "server")))
+                next_kill = time.monotonic() + draw.uniform(2, 6)
+            time.sleep(0.2)
+
+    def run(self) -> Evidence:
+        """Makes all cards. Returns what they received, and what the server and `shopbook` say."""
+        self.keeper.start()
+        self.stock()
+        for station in self.stations:
+            station.start()
+        self.make_all()
+        self.floor.is_over.set()
+        for station in self.stations:
+            station.join()
+        if self.floor.wrong:
+            sys.exit("\n".join(self.floor.wrong))
+        report = {record: int(blank) for record, _, _, blank in self.records() if blank != "-"}
+        account, batch = self.read("/blanks/P1"), self.read("/batch/B1")
+        self.keeper.stop()
+        blanks, sums = blanks_of(self.book("blanks", "--product", "P1"))
+        strays = {card.serial for card in self.cards if card.serial >= FOREIGN}
+        return Evidence(
+            cards=self.cards,
+            rows=rows_of(self.batch),
+            plans=plans_of(self.given.persod, self.batch),
+            strays=strays | self.discarded,
+            unread={card.serial for card in self.cards if "dead at in" in card.met},
+            discarded=self.discarded,
+            total=self.blanks,
+            sessions=sessions_of(self.book("cards", "--batch", "B1")),
+            blanks=blanks,
+            report=report,
+            accounts=[account, sums],
+            batch=batch,
+        )
+
+    def book(self, *words: str) -> list[list[str]]:
+        """The lines of a subcommand of `shopbook`, in their columns."""
+        command = [self.given.shopbook, words[0], "--db", str(self.floor.database), *words[1:]]
+        printed = subprocess.run(command, capture_output=True, text=True, check=True).stdout
+        return [line.split(" ") for line in printed.splitlines()]
 
 
 # ---- the run
@@ -281,62 +345,12 @@ def start_pcscd(folder: pathlib.Path) -> subprocess.Popen[bytes]:
     sys.exit(f"pcscd: {why}")
 
 
-def account(port: int, target: str) -> dict[str, int]:
-    return json.loads((parts(exchange(port, get(target))) or (0, b"{}"))[1])
-
-
 def run(given: argparse.Namespace, folder: pathlib.Path) -> int:
     begun, floor = time.monotonic(), Floor(given, folder)
-    pcscd, keeper = start_pcscd(folder), Keeper(floor)
-    keeper.start()
-    each = BLANKS * given.cards
-    cards = [cards_for(floor, place, each) for place in range(MACHINES)]
-    discarded = {FIRST + place * each + 8 for place in range(MACHINES)}
-    office = Client(Shop(floor.port), "office", str(given.seed))
-    batch = batch_of(floor, given.cards)
-    stock(office, batch, MACHINES * each, discarded)
-    stations = [Station(floor, place, list(cards[place]), keeper) for place in range(MACHINES)]
-    for station in stations:
-        station.start()
-    make_all(floor, office, keeper, stations)
-    floor.is_over.set()
-    for station in stations:
-        station.join()
-    accounts = [account(floor.port, target) for target in ("/blanks/P1", "/batch/B1")]
-    named = {record: int(blank) for record, _, _, blank in report(office.shop) if blank != "-"}
-    keeper.stop()
+    pcscd = start_pcscd(folder)
+    evidence = Bureau(given, floor).run()
     pcscd.kill()
-    if floor.wrong:
-        print("\n".join(floor.wrong))
-        return 1
-    evidence = evidence_of(given, floor, batch, [*cards[0], *cards[1]], discarded)
-    evidence.report, evidence.batch = named, accounts[1]
-    evidence.accounts.append(accounts[0])
     return judge(floor, evidence, time.monotonic() - begun)
-
-
-def evidence_of(
-    given: argparse.Namespace, floor: Floor, batch: str, cards: list[Card], discarded: set[int]
-) -> Evidence:
-    """What the cards and `shopbook` say."""
-    blanks = book(given.shopbook, floor.database, "blanks", "--product", "P1")
-    names = ("lots", "total", "free", "good", "running", "spoiled", "discarded")
-    [sums] = [dict(zip(names, map(int, line[1:]))) for line in blanks if line[0] == "sums"]
-    sessions = sessions_of(book(given.shopbook, floor.database, "cards", "--batch", "B1"))
-    return Evidence(
-        cards=cards,
-        rows=rows_of(batch),
-        plans=plans_of(given.persod, batch),
-        strays=discarded | {card.serial for card in cards if card.serial >= FOREIGN},
-        unread={card.serial for card in cards if "dead at in" in card.met},
-        discarded=discarded,
-        total=MACHINES * BLANKS * given.cards,
-        sessions=sessions,
-        blanks={int(line[1]): (line[3], line[4]) for line in blanks if line[0] == "blank"},
-        report={},
-        accounts=[sums],
-        batch={},
-    )
 
 
 def judge(floor: Floor, evidence: Evidence, seconds: float) -> int:

@@ -1,12 +1,14 @@
 """Judges the cards of `bench/run pcsc` by what they received, and the accounts by the cards."""
 import copy
 import dataclasses
-import pathlib
 import subprocess
 from collections import Counter
 from typing import Any, Callable, Iterator, NamedTuple, Optional
 
 from card import FEEDER, GOOD, REJECTS, Card, Event
+
+
+SUMS = "lots", "total", "free", "good", "running", "spoiled", "discarded"
 
 
 class Session(NamedTuple):
@@ -61,16 +63,16 @@ def plans_of(program: str, text: str) -> dict[str, list[str]]:
     return plans
 
 
-def book(program: str, database: pathlib.Path, *words: str) -> list[list[str]]:
-    """The lines of a subcommand of shopbook, in their columns."""
-    command = [program, words[0], "--db", str(database), *words[1:]]
-    printed = subprocess.run(command, capture_output=True, text=True, check=True).stdout
-    return [line.split(" ") for line in printed.splitlines()]
-
-
 def sessions_of(lines: list[list[str]]) -> dict[int, Session]:
     rows = [line for line in lines if line[0] == "card" and line[2] != "-"]
     return {int(row[4]): Session(row[1], row[5], int(row[6]), row[7]) for row in rows}
+
+
+def blanks_of(lines: list[list[str]]) -> tuple[dict[int, tuple[str, str]], dict[str, int]]:
+    """State and record of each charged blank, and the sums, from `shopbook blanks`."""
+    blanks = {int(line[1]): (line[3], line[4]) for line in lines if line[0] == "blank"}
+    [sums] = [map(int, line[1:]) for line in lines if line[0] == "sums"]
+    return blanks, dict(zip(SUMS, sums))
 
 
 def _sorted(groups: dict[str, list[str]]) -> dict[str, list[str]]:
