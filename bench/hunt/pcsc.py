@@ -73,13 +73,13 @@ STOPS = ("6A80", "6283", "6F00", "6C05", "6985")
 
 def lacking() -> list[str]:
     """What this machine lacks."""
-    found = [name for name in ("pcscd", "ip") if not shutil.which(name, path=PATH)]
+    found = [name for name in ("pcscd", "ip", "unshare") if not shutil.which(name, path=PATH)]
     found += [] if VPCD.exists() else ["vpcd"]
     try:
         ctypes.CDLL("libpcsclite.so.1")
     except OSError:
         found.append("libpcsclite.so.1")
-    if subprocess.run([*namespaces(), "true"], capture_output=True).returncode:
+    if not found and subprocess.run([*namespaces(), "true"], capture_output=True).returncode:
         found.append("root or user namespaces")
     return found
 
@@ -182,10 +182,11 @@ class Station(threading.Thread):
             if status not in (0, -9) or not self.magazine.is_alive():
                 lines = said.read_text().splitlines()[-5:]
                 self.floor.wrong.append("\n".join([f"{self.machine}: status {status}", *lines]))
-            if status == 0:
-                if is_last:
-                    return
-                time.sleep(0.3)
+            if status == 0 and is_last:
+                return
+            if not self.magazine.cards and not is_last:
+                self.floor.wrong.append(f"{self.machine}: no cards are left")
+            time.sleep(0.3 if status == 0 else 0)
 
 
 def reader_name(place: int) -> str:
