@@ -1,12 +1,16 @@
 #!/usr/bin/env python3
-"""A minimal driver of a machine: it makes cards of a batch over `persod serve`, and may lose replies on purpose.
+"""A minimal driver of a machine: it makes cards of a batch over `persod serve`.
 
     python3 bench/demo/driver.py PORT MACHINE BATCH FIRST_BLANK [--boot N] [--lose N]
 
-Blanks are taken one after the other from FIRST_BLANK on, until the batch wants no more cards. A boot is 1 to 9999999999 and greater at each start, since
-the numbers of requests begin with it. Without --boot it is the seconds since 1970. A boot that was used before is refused at the first request. --lose N
-throws away every Nth reply, as a broken network would. `card` is where a real driver sends the command to its reader; here the card's status word is
-9000 to each command."""
+It takes the blanks FIRST_BLANK, FIRST_BLANK + 1 and so on, until the batch needs no more cards.
+The boot number must be higher at every start, because the request numbers begin with it. The
+default is the seconds since 2026-01-01. A used boot number is refused at the first request.
+--lose N discards every Nth reply, as a bad network would.
+
+A real driver replaces `card`, which sends a command to the reader. Here the card returns 9000 to
+every command. The table in docs/SHOP_FLOOR.md, "Responses and cards", says where each card goes.
+"""
 import argparse
 import http.client
 import json
@@ -14,39 +18,53 @@ import random
 import sys
 import time
 
-# Between a hundred tries lie pauses of a minute and a half in all, since a start of the server may take a minute.
+# The pauses between 100 tries last a minute and a half, because a start of the server can take a
+# minute.
 TRIES = 100
 LONGEST_PAUSE = 1
 NUMBERS = 10_000_000
+START_OF_2026 = 1_767_225_600
+# If so many cards in a row aren't blanks of the product, the wrong ones are in the magazine.
+MOST_STRAYS = 3
+
+
+class Stopped(SystemExit):
+    """The machine stops. If `reject` is true, the inserted card must be rejected. Otherwise it is
+    unused and returns to the magazine."""
+
+    def __init__(self, text, reject):
+        super().__init__(text)
+        self.reject = reject
 
 
 def new_boot():
-    """The seconds since 1970: greater at each start, if two starts are a second apart and nobody sets the clock back."""
-    return int(time.time())
+    """Returns the seconds since 2026-01-01, so that request numbers are below 2**53. They are
+    higher at every start if two starts are a second apart and the clock is never set back."""
+    return int(time.time()) - START_OF_2026
 
 
 class Machine:
     def __init__(self, port, name, boot, lose=0):
         self.port, self.name, self.boot, self.lose = port, name, boot, lose
-        self.number, self.sent, self.repeats = boot * NUMBERS, 0, 0
+        self.number, self.sent, self.repeats, self.strays = boot * NUMBERS, 0, 0, 0
 
     def ask(self, request, end=""):
-        """The reply to a request under a number of its own. While there is none, the same bytes go again under the same number."""
+        """Returns the reply to a request under a new number."""
         self.number += 1
         return self.repeat((json.dumps(request) + end).encode())
 
     def repeat(self, body):
-        """Sends these bytes under the present number until there is a reply."""
+        """Repeats the same bytes under the same number until the reply arrives, and returns it."""
         for tried in range(TRIES):
             reply = self.send(body)
             if reply is not None:
                 self.repeats += tried
                 return reply
             time.sleep(min(0.01 * 2**tried, LONGEST_PAUSE))
-        raise SystemExit(f"{self.name}: no reply to number {self.number}")
+        raise Stopped(f"{self.name}: no reply to number {self.number}", True)
 
     def send(self, body):
-        """One try: status and JSON, or None where no whole reply came, or one of a server or a proxy that can't answer now."""
+        """Tries once. Returns status and JSON, or None if no complete reply arrived."""
         link = http.client.HTTPConnection("127.0.0.1", self.port, timeout=60)
         self.sent += 1
         try:
@@ -63,51 +81,83 @@ class Machine:
         if answer.status >= 500:
             return None
         if answer.status not in (200, 409):
-            raise SystemExit(f"{self.name}: {answer.status} {text.decode()}")
+            raise Stopped(f"{self.name}: {answer.status} {text.decode(errors='replace')}", True)
         return answer.status, json.loads(text)
 
     def start(self):
-        """Gives up the numbers of earlier boots, and whatever session of this machine still runs. White space at random ends the first request, so
-        that a second start with the same boot sends other bytes under its number: it is refused 72 instead of getting the first one's replies."""
-        status, reply = self.ask({"do": "release", "upto": self.number}, "".join(random.choices(" \t", k=64)))
+        """Releases the numbers of earlier boots, and ends the session that was running. Random
+        white space ends the first request, so a second start with the same boot number sends
+        different bytes and is refused with 72. It doesn't get the replies of the first start."""
+        end = "".join(random.choices(" \t", k=64))
+        status, reply = self.ask({"do": "release", "upto": self.number}, end)
         if status == 409 and reply["code"] == 72:
-            raise SystemExit(f"{self.name}: boot {self.boot} was used before: take a greater one")
+            raise Stopped(f"{self.name}: boot {self.boot} was used before: use a higher one", False)
         if status == 409 and reply["code"] == 73:
-            raise SystemExit(f"{self.name}: boot {self.boot} is lower than one that was used: take a greater one")
+            raise Stopped(f"{self.name}: boot {self.boot} is too low: use a higher one", False)
         self.done(status, reply)
         self.done(*self.ask({"do": "reset"}))
 
     def done(self, status, reply):
         if status != 200:
-            raise SystemExit(f"{self.name}: number {self.number}: {reply}")
+            raise Stopped(f"{self.name}: number {self.number}: {reply}", True)
 
     def make(self, batch, blank):
-        """Makes one card: True if it is good, False if it goes to the rejects, None if the batch wants none."""
+        """Makes a card. Returns True if it is good, False if it must be rejected, and None if it
+        is unused and the batch needs no more cards."""
         status, reply = self.ask({"do": "open", "batch": batch, "blank": blank})
-        if status == 409 and reply["code"] in (57, 62):
-            return None
-        if status == 409 and reply["code"] == 60:
-            return self.rejected(blank, reply)
-        self.done(status, reply)
+        if status == 409:
+            return self.not_opened(blank, reply)
+        self.strays = 0
         while reply["result"] == "command":
+            session, index = reply["session"], reply["index"]
             word = self.card(bytes.fromhex(reply["command"]))
-            asked = {"do": "answer", "session": reply["session"], "index": reply["index"], "sw": word}
-            status, reply = self.ask(asked)
+            request = {"do": "answer", "session": session, "index": index, "sw": word}
+            if word is None:
+                request = {"do": "abort", "session": session}
+            status, reply = self.ask(request)
             if status == 409:
-                return self.rejected(blank, reply)
+                return self.broken_off(blank, reply)
         return reply["result"] == "good"
 
-    def rejected(self, blank, reply):
-        print(f"{self.name}: blank {blank} is rejected: {reply['code']} {reply['refused']}", file=sys.stderr)
+    def not_opened(self, blank, reply):
+        """Decides what to do with a card whose `open` was refused."""
+        code = reply["code"]
+        if code in (57, 62):
+            return None
+        if code not in (58, 59, 60, 61):
+            raise self.stopped(blank, reply, reject=code == 73)
+        self.strays = self.strays + 1 if code in (58, 59) else 0
+        if self.strays == MOST_STRAYS:
+            raise self.stopped(blank, reply, reject=True)
+        return self.rejected(blank, reply, reset=code == 61)
+
+    def broken_off(self, blank, reply):
+        """Decides what to do with a card whose `answer` or `abort` was refused."""
+        if reply["code"] not in (65, 66):
+            raise self.stopped(blank, reply, reject=True)
+        return self.rejected(blank, reply, reset=reply["code"] == 66)
+
+    def rejected(self, blank, reply, reset):
+        """Rejects a card. `reset` ends the session that is still running."""
+        why = f"{reply['code']} {reply['refused']}"
+        print(f"{self.name}: blank {blank} is rejected: {why}", file=sys.stderr)
+        if reset:
+            self.done(*self.ask({"do": "reset"}))
         return False
 
+    def stopped(self, blank, reply, reject):
+        place = "is rejected" if reject else "returns to the magazine"
+        why = f"{reply['code']} {reply['refused']}"
+        return Stopped(f"{self.name}: stopped, blank {blank} {place}: {why}", reject)
+
     def card(self, command):
-        """Sends a command to the card, once, and gives its status word."""
+        """Sends a command to the card, once. Returns its status word, or None if it gives none."""
         return "9000"
 
 
 def main():
-    words = argparse.ArgumentParser(description=__doc__, formatter_class=argparse.RawDescriptionHelpFormatter)
+    words = argparse.ArgumentParser(
+        description=__doc__, formatter_class=argparse.RawDescriptionHelpFormatter)
     for name in ("port", "machine", "batch", "first_blank"):
         words.add_argument(name, type=str if name in ("machine", "batch") else int)
     words.add_argument("--boot", type=int, default=new_boot())
@@ -118,7 +168,8 @@ def main():
     blank, good, bad = given.first_blank, 0, 0
     while (made := machine.make(given.batch, blank)) is not None:
         good, bad, blank = good + made, bad + (not made), blank + 1
-    print(f"{given.machine}: {good} good, {bad} rejected, {machine.sent} requests sent, {machine.repeats} of them again")
+    print(f"{given.machine}: {good} good, {bad} rejected, "
+          f"{machine.sent} requests sent, {machine.repeats} of them again")
     return 0
 
 

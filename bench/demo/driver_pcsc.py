@@ -9,9 +9,9 @@ card handler, which moves the cards. The driver sends it a line, and gets a line
     next            feeds a card into the reader, unless one is in: `in`, or `empty`
     out TRAY        moves this card to a tray: `out`, or `none` if there is no card
 
-TRAY is `good`, `rejects`, or `feeder` for an unused card that may be fed again. A real machine has
-calls of its own for this: replace `handle`. It may also know the serials: replace `serial_of`. Here
-a serial is in the historical bytes of the ATR, in decimal. It is read before the `open`.
+TRAY is `good`, `rejects`, or `magazine` for an unused card. A real machine has calls of its own for
+this: replace `handle`. It may also know the serials: replace `serial_of`. Here a serial is in the
+historical bytes of the ATR, in decimal. It is read before the `open`.
 
 How the driver treats a card:
 - The connection to a card is exclusive, so no other program can send it anything. The card is
@@ -20,15 +20,13 @@ How the driver treats a card:
   61XX, and no second try after 6CXX.
 - A card that gives no status word, because it was pulled out or is mute, is rejected after an
   `abort`. Nothing is sent to it again.
-- A card whose `open` is refused with 58, 59 or 60 is rejected. After any other refusal of an `open`
-  the card is unused: it goes back to the feeder, and the machine stops.
-- A card whose `answer` or `abort` is refused is rejected.
+- After a response it goes where the table in docs/SHOP_FLOOR.md, "Responses and cards", says.
 
 FILE is MACHINE.state if there is no --state. It has the last request and the serial of the card in
-the reader. They are on the disk before the request is sent. After a kill or a power failure, the
-driver first repeats this request. If the reply is `good`, the card received everything, and is put
-out as good. Any other card with a session is rejected, because it has lost its power. The number of
-the request has the boot number in it: each start takes a higher one.
+the reader. They are on the disk before the request is sent. After a kill, a power failure, or 100
+tries without a reply, the card stays in the reader, and the next start first repeats this request.
+If the reply is `good`, the card received everything, and is put out as good. Any other card with a
+session is rejected, because it has lost its power. Each boot number is above the one in FILE.
 
 Needs libpcsclite1 and a running pcscd. --lose N discards every Nth reply, as driver.py does."""
 import argparse
@@ -39,22 +37,11 @@ import pathlib
 import socket
 import sys
 
-from driver import NUMBERS, Machine, new_boot
+from driver import NUMBERS, Machine, Stopped, new_boot
 from winscard import Failed, Reader, historical
 
-GOOD, REJECTS, FEEDER = "good", "rejects", "feeder"
-GOES = {GOOD: "is good", REJECTS: "is rejected", FEEDER: "goes back to the feeder"}
+GOOD, REJECTS, MAGAZINE = "good", "rejects", "magazine"
 SECONDS = 5  # at most, until the reader notices a card, or that it is gone
-# The refusals of an `open` that concern only this card.
-STRAY = 58, 59, 60
-# The refusals of an `open` that end a batch.
-ENDS = 57, 62
-# The refusals of an `answer` or an `abort` that concern only this session.
-SESSION = 63, 64, 65, 66
-
-
-class NoWord(Exception):
-    """The card gave no status word."""
 
 
 class State:
@@ -96,19 +83,17 @@ class CardMachine(Machine):
         if boot <= self.state.boot():
             sys.exit(f"{given.machine}: boot {boot} isn't above {self.state.boot()}, the last one")
         super().__init__(given.port, given.machine, boot, given.lose)
-        self.reader, self.blank = Reader(given.reader), None
-        # None while the machine runs, empty after the end of the batch, otherwise why it stops.
-        self.error = None
+        self.reader, self.blank, self.has_reply = Reader(given.reader), None, True
         self.handler = socket.socket(socket.AF_UNIX)
         self.handler.connect(given.handler)
-        self.counts = {GOOD: 0, REJECTS: 0, FEEDER: 0}
+        self.counts = {GOOD: 0, REJECTS: 0, MAGAZINE: 0}
 
     def send(self, body):
         self.state.keep(self.number, body, self.blank)
-        try:
-            return super().send(body)
-        except SystemExit as why:  # a status such as 400
-            return 400, {"code": 400, "refused": str(why)}
+        self.has_reply = True
+        reply = super().send(body)
+        self.has_reply = reply is not None
+        return reply
 
     def say(self, text):
         print(f"{self.name}: {text}", file=sys.stderr, flush=True)
@@ -145,7 +130,7 @@ class CardMachine(Machine):
         if self.handle(f"out {tray}") == "out":
             self.counts[tray] += 1
         elif self.blank is not None:
-            self.say(f"blank {self.blank} {GOES[tray]}, and isn't in the reader")
+            self.say(f"blank {self.blank} belongs to {tray}, and isn't in the reader")
         self.blank = None
         if self.state.kept:
             self.state.keep(self.state.kept["number"], self.state.kept["body"].encode(), None)
@@ -164,42 +149,30 @@ class CardMachine(Machine):
         return False
 
     def card(self, command):
-        """Sends a command to the card, once. Returns its status word, the last two bytes."""
+        """Sends a command to the card, once. Returns its status word, the last two bytes, or None
+        if it gives none."""
         try:
             answer = self.reader.transmit(command)
         except Failed as why:
-            raise NoWord(str(why)) from why
+            self.say(f"blank {self.blank} gave no status word: {why}")
+            return None
         if len(answer) < 2:
-            raise NoWord(f"{len(answer)} bytes")
+            self.say(f"blank {self.blank} gave {len(answer)} bytes and no status word")
+            return None
         return answer[-2:].hex().upper()
 
     # ---- a session
 
-    def make(self, batch, blank):
-        """Makes the card with this serial. Returns its tray."""
-        status, reply = self.ask({"do": "open", "batch": batch, "blank": blank})
-        while status == 200 and reply["result"] == "command":
-            session = {"session": reply["session"]}
-            try:
-                word = self.card(bytes.fromhex(reply["command"]))
-            except NoWord as why:
-                self.say(f"blank {blank} gave no status word: {why}")
-                status, reply = self.ask({"do": "abort", **session})
-            else:
-                asked = {"do": "answer", **session, "index": reply["index"], "sw": word}
-                status, reply = self.ask(asked)
-        return self.tray_after(status, reply)
-
-    def tray_after(self, status, reply):
-        """The tray of the card, after this reply to the last request. May stop the machine."""
-        if status == 200:
-            return GOOD if reply["result"] == "good" else REJECTS
-        code, is_opening = reply["code"], json.loads(self.state.kept["body"])["do"] == "open"
-        tray = REJECTS if not is_opening or code in STRAY else FEEDER
-        self.say(f"blank {self.blank} {GOES[tray]}: {code} {reply['refused']}")
-        if code not in (STRAY if is_opening else SESSION):
-            self.error = "" if code in ENDS else f"{self.name}: stopped by {reply}"
-        return tray
+    def tray_after(self, act, *arguments):
+        """Returns the tray for the result of `act`, and why the machine stops, if it does. Without
+        a reply the card stays in the reader."""
+        try:
+            made = act(*arguments)
+        except Stopped as why:
+            if not self.has_reply:
+                raise
+            return (REJECTS if why.reject else MAGAZINE), why
+        return {True: GOOD, False: REJECTS, None: MAGAZINE}[made], None
 
     def recover(self):
         """Repeats the request that was pending when the driver ended, and puts out its card."""
@@ -207,23 +180,32 @@ class CardMachine(Machine):
         if not kept or kept["blank"] is None:
             return
         self.number, self.blank = kept["number"], kept["blank"]
-        tray = self.tray_after(*self.repeat(kept["body"].encode()))
-        self.say(f"blank {self.blank} of the last start {GOES[tray]}")
+        tray, _ = self.tray_after(self.made_before, kept["body"])
+        self.say(f"blank {self.blank} of the last start belongs to {tray}")
         serial = self.connected() if self.reader.is_present() else None
         if serial not in (None, self.blank):
             raise SystemExit(f"{self.name}: card {serial} is in the reader instead: take it out")
         self.put_out(tray)
-        self.number, self.error = number, None
+        self.number = number
+
+    def made_before(self, body):
+        """Returns the result of `make` for a card that lost its power after this request."""
+        status, reply = self.repeat(body.encode())
+        if status == 409 and json.loads(body)["do"] == "open":
+            return self.not_opened(self.blank, reply)
+        return status == 200 and reply["result"] == "good"
 
     def run(self, batch):
         self.recover()
         self.start()
-        while self.error is None and self.put_in():
-            self.put_out(self.make(batch, self.blank))
+        tray = why = None
+        while tray != MAGAZINE and why is None and self.put_in():
+            tray, why = self.tray_after(self.make, batch, self.blank)
+            self.put_out(tray)
         good, rejected, back = self.counts.values()
-        cards = f"{good} good, {rejected} rejected, {back} back to the feeder"
+        cards = f"{good} good, {rejected} rejected, {back} back to the magazine"
         print(f"{self.name}: {cards}, {self.sent} requests sent, {self.repeats} of them again")
-        return self.error or 0
+        return str(why or "") or 0
 
 
 def main():

@@ -40,7 +40,7 @@ class Shown(driver.Machine):
     def make(self, batch, blank):
         print(f"\nblank {blank}", flush=True)
         made = super().make(batch, blank)
-        print({True: "good", False: "to the rejects", None: "nothing waits: it stays in the feeder"}[made], flush=True)
+        print({True: "good", False: "to the rejects", None: "no record is waiting: it returns to the magazine"}[made], flush=True)
         return made
 
     def card(self, command):

@@ -5,8 +5,7 @@ import subprocess
 from collections import Counter
 from typing import Any, Callable, Iterator, NamedTuple, Optional
 
-from card import FEEDER, GOOD, REJECTS, Card, Event
-
+from card import MAGAZINE, GOOD, REJECTS, Card, Event
 
 SUMS = "lots", "total", "free", "good", "running", "spoiled", "discarded"
 
@@ -106,7 +105,7 @@ def _trays(card: Card) -> list[str]:
 
 def tray_of(card: Card) -> str:
     """Where a card is at the end. One that was never moved is in its magazine."""
-    return (_trays(card) or [FEEDER])[-1]
+    return (_trays(card) or [MAGAZINE])[-1]
 
 
 def _of_commands(card: Card) -> Iterator[str]:
@@ -148,7 +147,7 @@ def _without_session(card: Card, evidence: Evidence) -> Iterator[str]:
 
 def of_card(card: Card, evidence: Evidence) -> Iterator[str]:
     """Everything that is wrong with a card."""
-    if any(tray != FEEDER for tray in _trays(card)[:-1]):
+    if any(tray != MAGAZINE for tray in _trays(card)[:-1]):
         yield "it was taken out of its last tray"
     if _commands(card):
         yield from _of_commands(card)

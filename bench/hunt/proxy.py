@@ -14,8 +14,8 @@ Then come:
 
 None of them changes anything. Idle connections hold nobody, a driver's repeat succeeds after a restart, and batch files up to 16 MiB pass.
 
-The rule for nftables is loaded in a network namespace, if this machine allows that: the port then serves the user of nginx only, and only the user of
-persod can answer there."""
+The rule for nftables is loaded in a network namespace, if this machine allows that: only the users of nginx and of persod can then connect to the port, and
+only the user of persod can answer there."""
 import json
 import os
 import pathlib
@@ -347,14 +347,14 @@ def port_rule() -> str:
         return f"the port's rule wasn't tried, for want of {' and '.join(lacking) or 'namespaces'}"
     with tempfile.TemporaryDirectory() as name:
         text = text_of("persod.nft").replace('"persod"', '"daemon"')
-        for removed, wanted in ((None, ["www-data reaches daemon"]), ("dport", None), ("sport", None)):
+        for removed, wanted in ((None, ["www-data reaches daemon", "daemon reaches daemon"]), ("dport", None), ("sport", None)):
             rule = pathlib.Path(name) / "persod.nft"
             rule.write_text("".join(line for line in text.splitlines(keepends=True) if not removed or removed not in line))
             ran = subprocess.run(["unshare", "--net", sys.executable, "-B", __file__, IN_NAMESPACE, rule], capture_output=True, text=True, timeout=300)
             expect(f"{IN_NAMESPACE} {removed}", (ran.returncode, ran.stderr), (0, ""))
-            expect("more come through without a line of the rule", len(ran.stdout.splitlines()) > 1, bool(removed))
+            expect("more come through without a line of the rule", len(ran.stdout.splitlines()) > 2, bool(removed))
             expect("who reaches whom through the port", ran.stdout.splitlines(), wanted or ran.stdout.splitlines())
-    return "the port's rule lets only nginx connect, and only persod answer"
+    return "the port's rule lets only nginx and persod connect, and only persod answer"
 
 
 # ---- the runs

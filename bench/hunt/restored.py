@@ -4,8 +4,8 @@
     bench/run restored
 
 The copy is made after `served N`. The server goes on, opens four cards, finishes one, and is killed, so a newer log lies beside the file. The page's commands
-move both away, put the copy in their place, and name what the copy lacks: the four blanks, and the record of the finished card. The next start's event line
-says what the copy holds, and C's SQLite finds the file whole. What comes of the copy beside the newer log is printed."""
+move both away, put the copy in their place, and list the lost work as requests: the four blanks, and the record of the finished card. The next start's event
+line says what the copy holds, and C's SQLite finds the file whole. What comes of the copy beside the newer log is printed."""
 import os
 import pathlib
 import shutil
@@ -38,7 +38,8 @@ def killed(program: str, folder: pathlib.Path) -> pathlib.Path:
 
 def restored_by_page(program: str, folder: pathlib.Path) -> list[str]:
     """What the page's commands print, one after the other."""
-    found = [block for block in blocks((TOP / "docs" / "OPERATING.md").read_text()) if "mkdir old" in block.text() or "ATTACH" in block.text()]
+    text = (TOP / "docs" / "OPERATING.md").read_text().replace("/srv/persod", str(TOP))
+    found = [block for block in blocks(text) if "mkdir old" in block.text() or "lost.sql" in block.text()]
     (folder / "bin").mkdir()
     (folder / "bin" / "persod").symlink_to(os.path.abspath(program))
     environment = {**os.environ, "PATH": f"{folder / 'bin'}:{os.environ['PATH']}"}
@@ -64,11 +65,13 @@ def main() -> None:
     program = sys.argv[1]
     with tempfile.TemporaryDirectory() as name:
         database = killed(program, pathlib.Path(name))
-        *moved, report, blanks, records = restored_by_page(program, pathlib.Path(name))
+        *moved, report, listed = restored_by_page(program, pathlib.Path(name))
         expect("what is printed at first", moved, [""] * 3)
         expect("the report", report.splitlines()[:4], ["batch B1", "product P1", "state open", "record R1 waiting 0 -"])
-        expect("the blanks", blanks.split(), [str(FIRST + place) for place in range(4)])
-        expect("the records", records.split(), ["B1|R3"])
+        lost = [f'{{"do":"discard","blank":{FIRST + place}}}' for place in range(4)]
+        lost.append('{"do":"withdraw","batch":"B1","record":"R3"}')
+        expect("what lost.sql prints", listed, "")
+        expect("the requests", (pathlib.Path(name) / "requests").read_text().splitlines(), lost)
         expect("restored", start(program, database), f"opened db={path(database)} log=none batches=1 sessions=0 replies=3")
         expect("the replies", len(kept(database)), 3)
     with tempfile.TemporaryDirectory() as name:

@@ -46,10 +46,10 @@ def main() -> None:
             'answered status=409 code=72 name=number-reused request="POST /c/m1/70000003 HTTP/1.1"',
             'answered status=409 code=73 name=number-released request="POST /c/m1/60000001 HTTP/1.1"',
         ])
-        expect("the driver with the feed's boot", driven(server.port, 7), (1, "m1: boot 7 was used before: take a greater one"))
-        expect("the driver with a lower one", driven(server.port, 6), (1, "m1: boot 6 is lower than one that was used: take a greater one"))
+        expect("the driver with the feed's boot", driven(server.port, 7), (1, "m1: boot 7 was used before: use a higher one"))
+        expect("the driver with a lower one", driven(server.port, 6), (1, "m1: boot 6 is too low: use a higher one"))
         expect("the driver with a new one", driven(server.port, 8)[0], 0)
-        expect("the driver with that again", driven(server.port, 8), (1, "m1: boot 8 was used before: take a greater one"))
+        expect("the driver with that again", driven(server.port, 8), (1, "m1: boot 8 was used before: use a higher one"))
         server.kill()
     print("a boot that was used, and a lower one: seen by the lines of feed and server, and by the driver at its first request")
 

@@ -41,7 +41,8 @@ import exchanges
 from served import exchange, free_port, get
 
 TOP = pathlib.Path(__file__).resolve().parents[2]
-PAGES = "README.md", "docs/OPERATING.md", "docs/EVENTS.md", "docs/PROTOCOL.md", "docs/SHOP_FLOOR.md", "docs/TABLES.md", "examples/README.md"
+PAGES = ("README.md", "docs/OPERATING.md", "docs/EVENTS.md", "docs/PROTOCOL.md", "docs/SHOP_FLOOR.md", "docs/TABLES.md", "examples/README.md",
+         "man/persod.md", "man/shopbook.md", "man/persod-batch.md")
 COMMANDS = set("awk bash cat cp curl date echo export for grep install kill ls mkdir mv persod printf python3 rm sh sleep sqlite3 tail test umask until wait while".split())
 COMMANDS |= {"systemd-analyze", "journalctl", "systemctl"}
 MAY_LACK = {"systemd-analyze"}

@@ -17,7 +17,7 @@ from typing import Callable, NamedTuple, Optional
 
 OFF, ON, RESET, ATR = 0, 1, 2, 4
 POWERS = {OFF: "off", ON: "on", RESET: "reset"}
-GOOD, REJECTS, FEEDER = "good", "rejects", "feeder"
+GOOD, REJECTS, MAGAZINE = "good", "rejects", "magazine"
 SELECT, STORE_DATA = bytes.fromhex("00A40400"), bytes.fromhex("80E2")
 # pcscd looks at a reader every 0.4 s. A card that is exchanged faster keeps the ATR of the other.
 EMPTY = 1
@@ -174,7 +174,7 @@ class Magazine(threading.Thread):
         if words == ["next"]:
             return self.feed()
         [out, tray] = words
-        assert out == "out" and tray in (GOOD, REJECTS, FEEDER)
+        assert out == "out" and tray in (GOOD, REJECTS, MAGAZINE)
         return self.move(tray)
 
     def feed(self) -> str:
@@ -198,7 +198,7 @@ class Magazine(threading.Thread):
             raise ConnectionResetError
         card.events.append(Event("tray", tray))
         self.card = None
-        if tray == FEEDER:
+        if tray == MAGAZINE:
             self.cards.appendleft(card)
         self.pull()
         if fault := card.fault("moved"):

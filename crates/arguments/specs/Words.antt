@@ -29,14 +29,25 @@ use Rattle.arguments.specs.declared.words.WordsFault.TheVariants.{NotText, BadNa
 abbrev pub numbers : ℕ → ℕ → ValueParser
 numbers low high = Signed (pos low) (pos high)
 
+-- `--name WORD`
+abbrev pub option : Text → Rule
+option name = record (new_rule name) { long = Some name; value_names = 1 }
+
+-- `--name WORD`, required
+abbrev pub text_needed : Text → Rule
+text_needed name = record (option name) { required = true }
+
+-- `--name N`
+abbrev pub number_option : Text → ValueParser → Rule
+number_option name parser = record (option name) { parser = Some parser }
+
+-- `--name N`, required
+abbrev pub number_needed : Text → ValueParser → Rule
+number_needed name parser = record (number_option name parser) { required = true }
+
 -- `--name N`, with a default
-abbrev pub number_option : Text → ValueParser → Text → Rule
-number_option name parser default = record (new_rule name) {
-  long = Some name;
-  value_names = 1;
-  parser = Some parser;
-  defaults = default ∷ [];
-}
+abbrev pub number_or : Text → ValueParser → Text → Rule
+number_or name parser default = record (number_option name parser) { defaults = default ∷ [] }
 
 -- `--name`, a flag that is off by default
 abbrev pub flag : Text → Rule
@@ -46,21 +57,13 @@ flag name = record (new_rule name) { long = Some name; action = Some SetTrue }
 abbrev pub plan_command : App
 plan_command =
     with_rule (with_rule (with_rule (new_app (codes "plan"))
-    (number_option (codes "max") (numbers 16 255) (codes "255")))
-    (number_option (codes "low") (numbers 0 31) (codes "0")))
+    (number_or (codes "max") (numbers 16 255) (codes "255")))
+    (number_or (codes "low") (numbers 0 31) (codes "0")))
     (flag (codes "check"))
 
 -- `drill`, which has no options
 abbrev pub drill_command : App
 drill_command = new_app (codes "drill")
-
--- `--name WORD`, required
-abbrev pub text_needed : Text → Rule
-text_needed name = record (new_rule name) { long = Some name; value_names = 1; required = true }
-
--- `--name N`, required
-abbrev pub number_needed : Text → ValueParser → Rule
-number_needed name parser = record (text_needed name) { parser = Some parser }
 
 -- `--port N`, required
 abbrev pub port_needed : Rule

@@ -8,9 +8,9 @@ ghost use Rattle.arguments.specs.Words.{InRange, IsNumber, IsRefusal, IsRefusedB
 ghost use Rattle.arguments.specs.Words.{ReadsAs, ReadsNot, ReadsPlan, ReadsReport, ReadsServe};
 ghost use Rattle.arguments.specs.Words.{FeedsNot, HasName, NamesNot, ReadsFeed, ReportsNot};
 ghost use Rattle.arguments.specs.Words.{ServesNot, UsesStreams, drill_command, feed_command};
-ghost use Rattle.arguments.specs.Words.{boot_needed, flag, number_option, port_needed};
-ghost use Rattle.arguments.specs.Words.{plan_command, program, report_command, serve_command};
-ghost use Rattle.arguments.specs.Words.{text_needed, number_needed};
+ghost use Rattle.arguments.specs.Words.{boot_needed, flag, number_option, number_or, option};
+ghost use Rattle.arguments.specs.Words.{plan_command, port_needed, program, report_command};
+ghost use Rattle.arguments.specs.Words.{number_needed, serve_command, text_needed};
 ghost use Rattle.arguments.specs.declared.words.WordsFault.TheVariants.{Memory};
 ghost use Rattle.arguments.specs.declared.words.Unread.TheVariants as lacks;
 
@@ -36,7 +36,8 @@ const STATUSES: &str = "Exit statuses: 0 done; 1 refused; 2 wrong arguments; 3 s
 /// The end of the help of `plan`.
 const STATUSES_OF_PLAN: &str = "Exit statuses: 0 done; 1 refused; 2 wrong arguments; 3 storage, \
     device or memory\n\n\
-    A refused batch prints `refused N row R`. docs/PROFILE.md lists the faults by their number N.";
+    A refused batch prints `refused N row R`. docs/PROFILE.md lists the faults by their number N.\n\
+    The cards get these commands only if the options are the settings of the batch's product.";
 
 /// The end of the help of the program, and of the subcommands that write event lines.
 const STATUSES_AND_EVENTS: &str = "Exit statuses: 0 done; 1 refused; 2 wrong arguments; 3 storage, \
@@ -179,10 +180,10 @@ fn program<'a>(alloc: Global) -> Result<Command<'a>, AllocError>
 fn plan_command<'a>(alloc: Global) -> Result<Command<'a>, AllocError>
     ensures { IfOk result (λ c. (app_of c ≡ plan_command) × ((fields_of c).has_globals ≡ false)) }
 {
-    let max = number_option(alloc, "max", value_parser!(u8).range(16..=255), "255").help(
+    let max = number_or(alloc, "max", value_parser!(u8).range(16..=255), "255").help(
         "Maximum number of data bytes in a STORE DATA command, 16 to 255",
     );
-    let low = number_option(alloc, "low", value_parser!(u8).range(0..=31), "0").help(
+    let low = number_or(alloc, "low", value_parser!(u8).range(0..=31), "0").help(
         "Bits 5 to 1 of P1 in every STORE DATA command, 0 to 31",
     );
     let check = flag(alloc, "check").help(
@@ -225,7 +226,9 @@ fn serve_command<'a>(alloc: Global) -> Result<Command<'a>, AllocError>
 fn report_command<'a>(alloc: Global) -> Result<Command<'a>, AllocError>
     ensures { IfOk result (λ c. (app_of c ≡ report_command) × ((fields_of c).has_globals ≡ false)) }
 {
-    let db = text_needed(alloc, "db", "PATH").help("Path of the database file; it must exist");
+    let db = text_needed(alloc, "db", "PATH").help(
+        "Path of the database file; it must exist, and no server may have it open",
+    );
     let batch = text_needed(alloc, "batch", "NAME").help("Name of the batch");
     Command::new(alloc, "report")
         .about("Print the report of a batch")
@@ -240,11 +243,14 @@ fn feed_command<'a>(alloc: Global) -> Result<Command<'a>, AllocError>
     let port = port_needed(alloc).help("Port of the server on 127.0.0.1, 1 to 65535");
     let machine = text_needed(alloc, "machine", "NAME").help("Name of the machine");
     let boot = boot_needed(alloc).help(
-        "Boot number, 1 to 9999999999; must increase at every start of the machine",
+        "Boot number, 1 to 9999999999; must increase at every start of the machine. With at most \
+        900719924, all request numbers are below 2^53",
     );
     let batch = text_needed(alloc, "batch", "NAME").help("Name of the batch");
     Command::new(alloc, "feed")
-        .about("Personalise cards as a machine: one card a line of standard input")
+        .about(
+            "Personalise cards as a machine; each line of standard input is a card: SERIAL SW ..",
+        )
         .after_help(STATUSES_AND_EVENTS)
         .arg(port)?
         .arg(machine)?
@@ -268,15 +274,28 @@ fn boot_needed<'a>(alloc: Global) -> Arg<'a>
     number_needed(alloc, "boot", ValueParser::unsigned(1, 9_999_999_999))
 }
 
+/// Returns the option `--name WORD`, which can be left out.
+pub fn option<'a>(alloc: Global, name: &'a str, word: &'a str) -> Arg<'a>
+    ensures rule { rule_of result ≡ option name.entry.now }
+    ensures own { result.global ≡ false }
+{
+    Arg::new(alloc, name).long(name).value_name(word)
+}
+
 // `--name WORD`, required
 fn text_needed<'a>(alloc: Global, name: &'a str, word: &'a str) -> Arg<'a>
     ensures rule { rule_of result ≡ text_needed name.entry.now }
     ensures own { result.global ≡ false }
 {
-    Arg::new(alloc, name)
-        .long(name)
-        .value_name(word)
-        .required(true)
+    option(alloc, name, word).required(true)
+}
+
+// `--name N`
+fn number_option<'a>(alloc: Global, name: &'a str, parser: ValueParser<'a>) -> Arg<'a>
+    ensures rule { rule_of result ≡ number_option name.entry.now parser.entry }
+    ensures own { result.global ≡ false }
+{
+    option(alloc, name, "N").value_parser(parser)
 }
 
 // `--name N`, required
@@ -284,32 +303,19 @@ fn number_needed<'a>(alloc: Global, name: &'a str, parser: ValueParser<'a>) -> A
     ensures rule { rule_of result ≡ number_needed name.entry.now parser.entry }
     ensures own { result.global ≡ false }
 {
-    Arg::new(alloc, name)
-        .long(name)
-        .value_name("N")
-        .value_parser(parser)
-        .required(true)
+    number_option(alloc, name, parser).required(true)
 }
 
 // `--name N`, with a default
-fn number_option<'a>(
-    alloc: Global,
-    name: &'a str,
-    parser: ValueParser<'a>,
-    default: &'a str,
-) -> Arg<'a>
-    ensures rule { rule_of result ≡ number_option name.entry.now parser.entry default.entry.now }
+fn number_or<'a>(alloc: Global, name: &'a str, parser: ValueParser<'a>, default: &'a str) -> Arg<'a>
+    ensures rule { rule_of result ≡ number_or name.entry.now parser.entry default.entry.now }
     ensures own { result.global ≡ false }
 {
-    Arg::new(alloc, name)
-        .long(name)
-        .value_name("N")
-        .value_parser(parser)
-        .default_value(default)
+    number_option(alloc, name, parser).default_value(default)
 }
 
-// `--name`, a flag that is off by default
-fn flag<'a>(alloc: Global, name: &'a str) -> Arg<'a>
+/// Returns the flag `--name`, which is off by default.
+pub fn flag<'a>(alloc: Global, name: &'a str) -> Arg<'a>
     ensures rule { rule_of result ≡ flag name.entry.now }
     ensures own { result.global ≡ false }
 {

@@ -6,23 +6,28 @@ ghost use Rattle.book_arguments.specs.Words.{IsOwn, IsSo, blanks_command, book_c
 ghost use Rattle.book_arguments.specs.Words.{cards_command, file_command, program, sheet_command};
 ghost use Rattle.book_arguments.specs.Words.{text_rule};
 
-use clap::{Arg, ArgAction, Command};
+use arguments::{flag, option};
+use clap::{Arg, Command};
 use std::alloc::{AllocError, Global};
 
 /// The program's version, as `--version` prints it.
 const VERSION: &str = "1.0.0";
 
 /// The description of `cards`.
-const OF_CARDS: &str = "List the sessions of a batch, in the order of its records";
+const OF_CARDS: &str =
+    "List the sessions of a batch in file order; records without a session are not listed";
 
 /// The description of `blanks`.
 const OF_BLANKS: &str = "List the charged blanks of a product, and their totals";
 
 /// The description of `machines`.
-const OF_MACHINES: &str = "List the machines and the other clients that ever sent a request";
+const OF_MACHINES: &str = "List the machines with their next boot numbers, then all other clients";
 
 /// The description of `sheet`.
 const OF_SHEET: &str = "Print one HTML page about a batch";
+
+/// The description of `--db`.
+const DATABASE: &str = "Path of the database file; no server may have it open";
 
 /// The states that `--state` takes.
 const STATES: &str = "Only blanks in this state: running, good, spoiled or discarded; default: all";
@@ -59,7 +64,7 @@ pub(crate) fn program<'a>(alloc: Global) -> Result<Command<'a>, AllocError>
 fn file_command<'a>(alloc: Global, name: &'a str, about: &'a str) -> Result<Command<'a>, AllocError>
     ensures { IfOk result (IsSo (file_command name.entry.now)) }
 {
-    let db = text(alloc, "db", "PATH", true, "Path of the database file");
+    let db = text(alloc, "db", "PATH", true, DATABASE);
     let command = Command::new(alloc, name).about(about).after_help(STATUSES);
     with(command, db)
 }
@@ -114,19 +119,12 @@ fn joined<'a>(program: Command<'a>, part: Command<'a>) -> Result<Command<'a>, Al
 fn text<'a>(alloc: Global, name: &'a str, word: &'a str, needed: bool, help: &'a str) -> Arg<'a>
     ensures { IsOwn (text_rule name.entry.now needed) result }
 {
-    Arg::new(alloc, name)
-        .long(name)
-        .value_name(word)
-        .required(needed)
-        .help(help)
+    option(alloc, name, word).required(needed).help(help)
 }
 
 // `--json`, off by default
 fn json<'a>(alloc: Global) -> Arg<'a>
     ensures { IsOwn (flag (codes "json")) result }
 {
-    Arg::new(alloc, "json")
-        .long("json")
-        .action(ArgAction::SetTrue)
-        .help("Print a JSON object on each line")
+    flag(alloc, "json").help("Print a JSON object on each line")
 }

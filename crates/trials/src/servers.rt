@@ -216,43 +216,35 @@ closed connections=10
 ";
     let lines = b"listening 127.0.0.1:8807\nserved 10\n";
     let run = || {
-        served_over(
-            rt.alloc(),
-            ListStore::new(rt.alloc()),
-            NEW,
-            &texts,
-            10,
-            Level::All,
-        )
+        let store = ListStore::new(rt.alloc());
+        served_over(rt.alloc(), store, NEW, &texts, 10, Level::All)
     };
     assert_ends!(rt; run(), Ok(()), lines, events);
     Ok(())
 }
 
+// Returns the request line of a target with `letters` letters, 16 bytes more than these.
+fn request_line(letters: usize) -> io::Result<Limited> {
+    let mut line = Limited::new(512, 512);
+    line.write_all(b"GET /")?;
+    line.write_all([b'a'; 256].get(..letters).unwrap_or(&[]))?;
+    line.write_all(b" HTTP/1.1\r\n")?;
+    Ok(line)
+}
+
 // Only the first 256 bytes are examined, so a longer request line isn't shown.
 #[test]
 fn a_long_request_line_is_not_shown(rt: HostRuntime) -> Result<(), Fail> {
-    let mut longest = [b'a'; 256];
-    longest[..5].copy_from_slice(b"GET /");
-    longest[245..].copy_from_slice(b" HTTP/1.1\r\n");
-    let mut longer = [b'a'; 257];
-    longer[..5].copy_from_slice(b"GET /");
-    longer[246..].copy_from_slice(b" HTTP/1.1\r\n");
-    let texts: [&[u8]; 2] = [&longest, &longer];
+    let (longest, longer) = (request_line(240)?, request_line(241)?);
+    let texts = [longest.taken(), longer.taken()];
     let mut events = Limited::new(512, 512);
     events.write_all(b"made db=\"shop.db\"\nbroken request=\"")?;
-    events.write_all(&longest[..254])?;
+    events.write_all(longest.taken().get(..254).unwrap_or(&[]))?;
     events.write_all(b"\"\nbroken bytes=256\nclosed connections=2\n")?;
     let lines = b"listening 127.0.0.1:8807\nserved 2\n";
     let run = || {
-        served_over(
-            rt.alloc(),
-            ListStore::new(rt.alloc()),
-            NEW,
-            &texts,
-            2,
-            Level::All,
-        )
+        let store = ListStore::new(rt.alloc());
+        served_over(rt.alloc(), store, NEW, &texts, 2, Level::All)
     };
     assert_ends!(rt; run(), Ok(()), lines, events.taken());
     Ok(())

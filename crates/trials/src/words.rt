@@ -196,7 +196,7 @@ fn help_names_the_subcommands_and_the_options(rt: HostRuntime) {
                 "16 to 255",
                 "[default: 255]",
                 "--check",
-                "Checks each plain record",
+                "Check that each unencrypted",
             ],
         ),
         ("persod plan -h", &["--low <N>", "0 to 31", "[default: 0]"]),

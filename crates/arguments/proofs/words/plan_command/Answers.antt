@@ -1,7 +1,7 @@
 use Rattle.std.proofs.Common.{rules, ◌≡◌, ◌∙◌, false, codes, ap}
 use Rattle.clap.specs.Words.{new_app, rule_of}
 use Rattle.clap.specs.declared.builder.arg.Arg.{Arg}
-use Rattle.arguments.specs.Words.{flag, number_option, numbers}
+use Rattle.arguments.specs.Words.{flag, number_or, numbers}
 use Rattle.arguments.proofs.CommandLemmas.{IsSo, last, more}
 use Rattle.arguments.proofs.words.plan_command.Goals as goal
 
@@ -9,13 +9,13 @@ pub returns : goal.returns
 returns c =
     let from_16 : c.range.result ≡ numbers 16 255 = search rules in
     let to_31 : c.range-2.result ≡ numbers 0 31 = search rules in
-    let max : (rule_of c.help-max.result ≡ number_option (codes "max") (numbers 16 255) (codes "255")) × (c.help-max.result.global ≡ false) = (
-      ap rule_of c.help-max.ensures ∙ c.number_option.ensures.rule ∙ ap (λ p. number_option (codes "max") p (codes "255")) from_16,
-      ap (λ (a : Arg). a.global) c.help-max.ensures ∙ c.number_option.ensures.own,
+    let max : (rule_of c.help-max.result ≡ number_or (codes "max") (numbers 16 255) (codes "255")) × (c.help-max.result.global ≡ false) = (
+      ap rule_of c.help-max.ensures ∙ c.number_or.ensures.rule ∙ ap (λ p. number_or (codes "max") p (codes "255")) from_16,
+      ap (λ (a : Arg). a.global) c.help-max.ensures ∙ c.number_or.ensures.own,
     ) in
-    let low : (rule_of c.help-low.result ≡ number_option (codes "low") (numbers 0 31) (codes "0")) × (c.help-low.result.global ≡ false) = (
-      ap rule_of c.help-low.ensures ∙ c.number_option-2.ensures.rule ∙ ap (λ p. number_option (codes "low") p (codes "0")) to_31,
-      ap (λ (a : Arg). a.global) c.help-low.ensures ∙ c.number_option-2.ensures.own,
+    let low : (rule_of c.help-low.result ≡ number_or (codes "low") (numbers 0 31) (codes "0")) × (c.help-low.result.global ≡ false) = (
+      ap rule_of c.help-low.ensures ∙ c.number_or-2.ensures.rule ∙ ap (λ p. number_or (codes "low") p (codes "0")) to_31,
+      ap (λ (a : Arg). a.global) c.help-low.ensures ∙ c.number_or-2.ensures.own,
     ) in
     let check : (rule_of c.help-check.result ≡ flag (codes "check")) × (c.help-check.result.global ≡ false) =
     (ap rule_of c.help-check.ensures ∙ c.flag.ensures.rule, ap (λ (a : Arg). a.global) c.help-check.ensures ∙ c.flag.ensures.own) in
