@@ -179,14 +179,20 @@ class Station(threading.Thread):
                 self.process = subprocess.Popen(self.words, stdout=output, stderr=output)
                 status = self.process.wait()
             self.floor.counts["starts of a driver"] += 1
-            if status not in (0, -9) or not self.magazine.is_alive():
-                lines = said.read_text().splitlines()[-5:]
-                self.floor.wrong.append("\n".join([f"{self.machine}: status {status}", *lines]))
+            self.look_at(status, said.read_text().splitlines()[-5:])
             if status == 0 and is_last:
                 return
             if not self.magazine.cards and not is_last:
                 self.floor.wrong.append(f"{self.machine}: no cards are left")
             time.sleep(0.3 if status == 0 else 0)
+
+    def look_at(self, status: int, lines: list[str]) -> None:
+        """Looks at the end of a driver, and at the last lines that it printed. On a slow machine
+        100 tries may pass while the server starts."""
+        if status == 1 and ": no reply to number " in lines[-1]:
+            self.floor.counts["drivers without a reply"] += 1
+        elif status not in (0, -9) or not self.magazine.is_alive():
+            self.floor.wrong.append("\n".join([f"{self.machine}: status {status}", *lines]))
 
 
 def reader_name(place: int) -> str:
