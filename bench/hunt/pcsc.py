@@ -30,6 +30,7 @@ import os
 import pathlib
 import random
 import shutil
+import signal
 import subprocess
 import sys
 import tempfile
@@ -85,9 +86,9 @@ def lacking() -> list[str]:
 
 
 def namespaces() -> list[str]:
-    """The command that gives a program its own network and mounts."""
+    """The command that gives a program its own network, mounts and processes, which end with it."""
     mapped = [] if os.geteuid() == 0 else ["--map-root-user"]
-    return ["unshare", "--net", "--mount", *mapped]
+    return ["unshare", "--net", "--mount", "--pid", "--fork", "--kill-child", *mapped]
 
 
 def prepare() -> None:
@@ -398,6 +399,7 @@ def main() -> int:
     words.add_argument(IN_NAMESPACE, action="store_true")
     given = words.parse_args()
     if given.in_namespace:
+        signal.signal(signal.SIGTERM, lambda *_: os._exit(143))
         prepare()
         os.environ.pop("PERSOD_LOG", None)
         with tempfile.TemporaryDirectory() as folder:
