@@ -49,10 +49,12 @@ class Machine:
         self.number, self.sent, self.repeats, self.strays = boot * NUMBERS, 0, 0, 0
 
     def ask(self, request, end=""):
-        """Returns the reply to a request under a new number. Repeats the same bytes under the same
-        number until the reply arrives."""
+        """Returns the reply to a request under a new number."""
         self.number += 1
-        body = (json.dumps(request) + end).encode()
+        return self.repeat((json.dumps(request) + end).encode())
+
+    def repeat(self, body):
+        """Repeats the same bytes under the same number until the reply arrives, and returns it."""
         for tried in range(TRIES):
             reply = self.send(body)
             if reply is not None:
