@@ -16,10 +16,11 @@ fn words_are_read_after_refused_memory(rt: HostRuntime) {
     }
     match read_at_last(alloc, "persod plan --help") {
         Err(WordsFault::Help(text)) => {
-            let end = "-h, --help     Print help\n\n\
-                Exit statuses: 0 done; 1 refused; 2 wrong arguments; 3 storage, device or memory\n\n\
-                A refused batch prints `refused N row R`: docs/PROFILE.md lists each fault by its \
-                number N\n";
+            let end =
+                "Exit statuses: 0 done; 1 refused; 2 wrong arguments; 3 storage, device or memory\n\n\
+                A refused batch prints `refused N row R`. docs/PROFILE.md lists the faults by their \
+                number N.\nThe cards get these commands only if the options are the settings of the \
+                batch's product.\n";
             assert!(rt; text.as_str().ends_with(end), "{text}");
         }
         other => assert!(rt; false, "{other:?}"),
