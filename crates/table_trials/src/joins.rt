@@ -74,7 +74,7 @@ static UNREAD: [Unread; 6] = [
     Unread {
         words: &["persod", "plan", "--help"],
         rooms: (14, 64),
-        output: b"Prints the com",
+        output: b"Print the comm",
         errors: b"",
         exit: (3, "device"),
     },
