@@ -7,7 +7,7 @@ Half of them are reset midway. Each of the others gets the reply that its bytes 
 and as many send a byte now and then: these are closed after 5 s and after 10 s, as docs/PROTOCOL.md says, get no reply, and keep nobody waiting. Each
 request of a machine has to be answered in the time that those before it may take, a quarter of a second for every one; an import and a body of
 16 MiB have 3 s. All have --patience times as much, which a build that isn't proved needs. What is in memory may grow by 1 MiB from the
-first tenth of the connections to the last, and by 64 MiB in a hundred connections with bodies of 16 MiB, because the C library may keep freed buffers. In the
+first tenth of the connections to the last, and by one body of 16 MiB, which the C library may keep, in a hundred connections with such bodies. In the
 end the machines' requests are asked of a server on a new file without any peer: each reply is the same byte by byte, and so are accounts, reports and
 the rows of all tables."""
 import argparse
@@ -153,8 +153,8 @@ def memory(peers: Peers, server: Server, connections: int, slow: int) -> None:
     last, most = server.resident(), server.peak()
     sizes = f"{warm >> 10} KiB, with {asked} requests of the shop {later >> 10}, with {BODIES} bodies of 16 MiB {last >> 10}"
     print(f"resident after {WARM:.0%} {sizes}; at most {most >> 10}")
-    # The C library keeps freed memory: the buffer of the connection, the body, and the copy that a repeat must equal.
-    if later - warm > GROWTH or last - later > GROWTH + 4 * MOST_FILE:
+    # A server keeps the memory that an arrival let go: of a batch, its body and what a repeat must equal.
+    if later - warm > GROWTH or last - later > GROWTH + 2 * MOST_FILE:
         peers.shop.wrong.append("memory grew")
 
 
