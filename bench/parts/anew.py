@@ -1,4 +1,4 @@
-"""Everything that was asked, asked once more of a server on a new file, in the order in which it was decided: the same must come."""
+"""Sends all requests of a run again to a server on a new file, in the order in which they were decided, and compares the results."""
 import pathlib
 import sys
 from typing import Any
@@ -14,7 +14,7 @@ def accounts(port: int, batches: list[str]) -> list[bytes]:
 
 
 def asked_anew(program: str, database: pathlib.Path, shop: Shop) -> list[bytes]:
-    """Asks all of it again, and answers the accounts at its end. Nothing disturbs the server."""
+    """Sends all requests again, undisturbed, to a server on `database`. Returns the replies to the accounts at the end."""
     server = Server(program, database, free_port())
     for sent in sorted(shop.sent, key=Sent.place):
         came = exchange(server.port, sent.message)
@@ -26,8 +26,8 @@ def asked_anew(program: str, database: pathlib.Path, shop: Shop) -> list[bytes]:
 
 
 def check_same(program: str, server: Server, database: pathlib.Path, shop: Shop, folder: pathlib.Path, others: str = "") -> None:
-    """Kills the server, and compares its file with one in a folder that comes of the same requests; but for what is kept of a client who asked
-    beside them."""
+    """Kills the server, and compares its database file with one that results from the same requests. The kept replies of the client `others` aren't
+    compared, because its requests aren't sent again."""
     found = accounts(server.port, shop.batches)
     server.kill()
     whole = folder / "anew.db"

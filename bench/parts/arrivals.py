@@ -1,10 +1,9 @@
-"""What the tables need for each arrival: the fewest reads that decide it, its writes and one
-commit, as lines for `measure_kit` and same.c (measure/programs/measure_kit.txt says how they are
-written).
+"""Writes arrivals as SQL statements for `measure_kit` and same.c: the fewest reads that decide an
+arrival, its writes, and one commit.
 
-Nothing is decided here: who makes an arrival knows what the reads answer, and gives the values of
-the writes. A text that reads or writes as ours do is taken from the definitions that ours are
-proved by.
+measure/programs/measure_kit.txt describes the format of the lines. Nothing is decided here: the
+caller knows what the reads return, and supplies the values of the writes. Statements that the
+server also uses are taken from the definitions in its specifications.
 """
 import pathlib
 import re
@@ -13,17 +12,17 @@ from typing import NamedTuple, Union
 
 TOP = pathlib.Path(__file__).resolve().parents[2]
 OPENING, ANSWER, LAST, IMPORT = KINDS = ("opening", "answer", "last answer", "import")
-# Counters move by their own values, so that nothing is read for them.
+# Counters are changed relative to their values, so they need no read.
 OWN = {
     "begin": "BEGIN",
     "commit": "COMMIT",
     "lot_at": "SELECT name, product FROM lot WHERE low_serial <= ?1 AND ?1 < low_serial + amount",
-    # With the plus C's SQLite, too, takes the index of the place, and not that of the order.
+    # The plus sign makes the SQLite library use the index by place instead of the one by order.
     "first_aid": "SELECT aid FROM grouping2 WHERE batch = ?1 AND place = ?2 "
     "ORDER BY +line LIMIT 1",
     "groupings": "SELECT line, aid, rank, enc, tol, coded FROM grouping2 WHERE batch = ?1 AND "
     "place = ?2 ORDER BY +line",
-    # An index alone answers it; of a closed batch a word is taken too.
+    # An index answers this query. For a closed batch the server reads one more column.
     "batch_product": "SELECT id, product FROM batch WHERE name = ?1",
     "one_runs": "UPDATE batch SET waiting = waiting - 1, running = running + 1, "
     "sessions = sessions + 1 WHERE id = ?1",
@@ -42,7 +41,7 @@ AT_ONCE = 16  # rows that "add_records" and "add_groupings" add
 
 
 def texts(crate: str) -> dict[str, str]:
-    """The texts of a crate's statements, by the names of their definitions."""
+    """Returns the statements of a crate, by the names of their definitions."""
     found = {}
     for path in sorted((TOP / "crates" / crate / "specs").glob("*.antt")):
         found.update(re.findall(r'^(\w+)_text = codes "(.*)"$', path.read_text(), re.MULTILINE))
@@ -63,7 +62,7 @@ NUMBERS = {name: number for number, name in enumerate(TEXTS)}
 
 
 def write_texts(path: pathlib.Path) -> pathlib.Path:
-    """Writes the texts, each on a line."""
+    """Writes the statements to `path`, one in each line."""
     path.write_text("".join(f"{text}\n" for text in TEXTS.values()))
     return path
 
@@ -82,7 +81,7 @@ def line(name: str, *values: Union[int, str, bytes]) -> str:
 
 
 class Kept(NamedTuple):
-    """What is kept of an arrival: its client and number, its ask, and the body of its reply."""
+    """A kept reply: the client, the request number, the request bytes, and the body of the reply."""
 
     client: str
     number: int
@@ -91,7 +90,7 @@ class Kept(NamedTuple):
 
 
 class Card(NamedTuple):
-    """The record of a session: its batch by id and name, and its place there."""
+    """The record of a session: the id and the name of its batch, and its place in the batch."""
 
     batch: int
     name: str
@@ -99,7 +98,7 @@ class Card(NamedTuple):
 
 
 def arrival(kept: Kept, reads: list[str], writes: list[str]) -> bytes:
-    """The lines of an arrival, and the byte 0 behind them."""
+    """Returns the lines of an arrival, followed by a byte 0."""
     first = [line("begin"), line("mark", kept.client), line("kept", kept.client, kept.number)]
     last = [line("add_reply", kept.client, kept.number, kept.ask, 200, kept.body), line("commit")]
     return "\n".join([*first, *reads, *writes, *last]).encode() + b"\0"
@@ -128,7 +127,8 @@ def opening(kept: Kept, card: Card, session: int, blank: int, lot: str) -> bytes
 
 
 def planned(card: Card, session: int, product: str) -> list[str]:
-    """What is read before a word: its session, and what its commands are planned from."""
+    """Returns the reads before a status word: the session, and the rows from which its commands are
+    planned."""
     return [
         line("session", session),
         line("batch_name", card.batch),
@@ -141,7 +141,8 @@ def planned(card: Card, session: int, product: str) -> list[str]:
 def answer(
     kept: Kept, card: Card, session: int, product: str, index: int, cursor: tuple[int, ...]
 ) -> bytes:
-    """The word 9000, behind which a session goes on with the command at the cursor."""
+    """Returns the arrival of a status word 9000, after which the session continues with the command
+    at the cursor."""
     writes = [
         line("add_word", session, index, 0x9000),
         line("set_session", session, 0, index + 1, *cursor),
@@ -152,7 +153,7 @@ def answer(
 def last_answer(
     kept: Kept, card: Card, session: int, product: str, index: int, cursor: tuple[int, ...]
 ) -> bytes:
-    """The word 9000, with which a card is good."""
+    """Returns the arrival of a status word 9000 that makes the card good."""
     writes = [
         line("add_word", session, index, 0x9000),
         line("set_session", session, 1, index + 1, *cursor),
@@ -163,8 +164,8 @@ def last_answer(
 
 
 def rows_of(raw: bytes) -> list[tuple]:
-    """The rows of a batch file as `grouping2` has them, but for the batch. Records are named R0,
-    R1 and so on by their places."""
+    """Returns the rows of a batch file as in the table `grouping2`, without the batch. The records
+    must be named R0, R1 and so on, by their places."""
     rows = []
     for number, text in enumerate(raw.decode().split()[1:], 2):
         record, aid, rank, enc, tol, coded = text.split(",")
@@ -174,7 +175,8 @@ def rows_of(raw: bytes) -> list[tuple]:
 
 
 def added(one: str, many: str, rows: list[tuple]) -> list[str]:
-    """The lines that add these rows: sixteen by a statement, and those that are left one by one."""
+    """Returns the lines that add `rows`: one statement for every sixteen rows, and one for each
+    remaining row."""
     whole = len(rows) - len(rows) % AT_ONCE
     chunks = [rows[at : at + AT_ONCE] for at in range(0, whole, AT_ONCE)]
     return [
@@ -184,8 +186,8 @@ def added(one: str, many: str, rows: list[tuple]) -> list[str]:
 
 
 def importing(kept: Kept, batch: int, name: str, product: str, raw: bytes) -> bytes:
-    """An import. The bytes are set last, as ours are: each row that refers to the batch has its
-    row read whole."""
+    """Returns the arrival of an import. As in the server, the bytes of the file are set last:
+    otherwise every row that refers to the batch would cause a read of the whole batch row."""
     rows = [(batch, *row) for row in rows_of(raw)]
     places = range(max(row[2] for row in rows) + 1)
     records = [(batch, place, f"R{place}", WAITING, 0, 0) for place in places]
@@ -199,18 +201,19 @@ def importing(kept: Kept, batch: int, name: str, product: str, raw: bytes) -> by
     return arrival(kept, reads, writes)
 
 
-# ---- who runs them
+# ---- programs that run arrivals
 
 
 class Runner:
-    """`measure_kit` or `same` over a file, which runs arrivals of its standard input."""
+    """`measure_kit` or `same` on a database file. The program runs the arrivals on its standard
+    input."""
 
     def __init__(self, program: str, database: pathlib.Path, made: pathlib.Path) -> None:
         words = [program, str(database), str(write_texts(made))]
         self.program = subprocess.Popen(words, stdin=subprocess.PIPE, stdout=subprocess.PIPE)
 
     def run(self, arrivals: list[bytes]) -> list[float]:
-        """Runs these, and answers how many seconds each took."""
+        """Runs the arrivals, and returns the time of each in seconds."""
         assert self.program.stdin and self.program.stdout
         took = []
         for one in arrivals:
@@ -220,7 +223,7 @@ class Runner:
         return took
 
     def processor(self) -> float:
-        """The processor time so far, in seconds."""
+        """Returns the processor time used so far, in seconds."""
         figures = pathlib.Path(f"/proc/{self.program.pid}/schedstat").read_text()
         return int(figures.split()[0]) / 1e9
 

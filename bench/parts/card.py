@@ -1,11 +1,11 @@
-"""Virtual cards, and a magazine that feeds them into a reader of pcscd.
+"""Simulates cards, and a magazine that feeds them into a reader of pcscd.
 
-A reader is a port of vpcd (Debian's vsmartcard-vpcd), which asks a card for its ATR, and sends it
-commands and changes of its power. Each message is two bytes of length and then the bytes.
+A reader is a port of vpcd (Debian's vsmartcard-vpcd). vpcd asks the card for its ATR, and sends
+commands and power changes. Each message is its length in two bytes, followed by the bytes.
 
-A card follows ISO/IEC 7816-4 and EMV CPS 1.1: a SELECT of 5 to 16 bytes, and then STORE DATA with
-ascending block numbers until the highest bit of P1. After it the data must be complete groupings.
-A card keeps all that happens to it."""
+A card follows ISO/IEC 7816-4 and EMV CPS 1.1: a SELECT with an AID of 5 to 16 bytes, then STORE
+DATA with ascending block numbers, until the highest bit of P1 is set. Then the data must consist
+of complete groupings. A card records everything that happens to it."""
 import collections
 import pathlib
 import select
@@ -19,14 +19,15 @@ OFF, ON, RESET, ATR = 0, 1, 2, 4
 POWERS = {OFF: "off", ON: "on", RESET: "reset"}
 GOOD, REJECTS, MAGAZINE = "good", "rejects", "magazine"
 SELECT, STORE_DATA = bytes.fromhex("00A40400"), bytes.fromhex("80E2")
-# pcscd looks at a reader every 0.4 s. A card that is exchanged faster keeps the ATR of the other.
+# pcscd checks a reader every 0.4 s. If a card is replaced faster, pcscd keeps the ATR of the
+# previous card.
 EMPTY = 1
 MUTE = 2
 Grouping = tuple[str, str]
 
 
 class Event(NamedTuple):
-    """Something that happened to a card: `power`, `command` with its answer, or `tray`."""
+    """An event of a card: `power`, `command` with its answer, or `tray`."""
 
     kind: str
     what: str
@@ -34,7 +35,7 @@ class Event(NamedTuple):
 
 
 def atr(serial: int, protocol: int) -> bytes:
-    """An ATR of T=0 or T=1 with the 18 digits of a serial as its historical bytes."""
+    """Returns an ATR for T=0 or T=1 with the 18 digits of a serial as its historical bytes."""
     digits = bytes.fromhex(f"{serial:018}")
     if protocol == 0:
         return bytes([0x3B, len(digits)]) + digits
@@ -46,7 +47,8 @@ def atr(serial: int, protocol: int) -> bytes:
 
 
 def groupings(data: bytes) -> Optional[list[Grouping]]:
-    """The groupings of an application as identifiers and data, or None if one isn't complete."""
+    """Returns the groupings of an application as pairs of identifier and data, or None if one is
+    incomplete."""
     found, at = [], 0
     while at < len(data):
         length, start = data[at + 2 : at + 3], at + 3
@@ -61,16 +63,17 @@ def groupings(data: bytes) -> Optional[list[Grouping]]:
 
 
 class Card:
-    """A card. `faults` has what goes wrong at a command, by its place from 0, or at a move:
+    """A card. `faults` maps a command (its index, from 0) or a movement to a fault:
 
-    - a status word that it answers, whatever the command is
-    - `short`: it answers with one byte
-    - `mute`: it doesn't answer, and is pulled out of the reader after a time
-    - `pull`, `gone`: it is pulled out before its answer, or after it
-    - `driver`, `server`: this program is killed when the command comes, before the answer; with
-      `in`, `out` and `moved` when the card is fed, before it is moved to a tray, and after it
+    - a status word: the card returns it, whatever the command is
+    - `short`: the card returns one byte
+    - `mute`: the card doesn't answer, and is pulled out of the reader after some time
+    - `pull`, `gone`: the card is pulled out before or after its answer
+    - `driver`, `server`: the program is killed when the command arrives, before the answer. With
+      `in`, `out` and `moved`, it is killed when the card is fed, before the card is moved to a
+      tray, and after that
 
-    A card with the fault `dead` at `in` gives no ATR."""
+    A card with the fault `dead` at `in` returns no ATR."""
 
     def __init__(self, serial: int, protocol: int, faults: dict[object, str]) -> None:
         self.serial, self.protocol, self.faults = serial, protocol, faults
@@ -91,7 +94,7 @@ class Card:
         self.events.append(Event("power", POWERS[what]))
 
     def fault(self, place: object) -> str:
-        """Returns the fault of this place, once."""
+        """Returns the fault at `place`, or "". Each fault happens once."""
         found = self.faults.pop(place, "")
         if found:
             self.met.append(found if isinstance(place, int) else f"{found} at {place}")
@@ -109,7 +112,7 @@ class Card:
         return bytes.fromhex(answer), fault
 
     def by_rules(self, sent: bytes) -> str:
-        """Returns the status word that the standards demand."""
+        """Returns the status word that the standards require."""
         data = sent[5:]
         if not data or len(data) != sent[4]:
             return "6700"
@@ -136,7 +139,7 @@ class Card:
 
 
 def exactly(link: socket.socket, count: int) -> bytes:
-    """Reads this number of bytes, or raises an error."""
+    """Reads exactly `count` bytes. Raises an error if the connection ends first."""
     data = b""
     while len(data) < count:
         piece = link.recv(count - len(data))
@@ -152,7 +155,7 @@ def message(data: bytes) -> bytes:
 
 class Magazine(threading.Thread):
     """The cards of one machine, its reader, and its card handler on a Unix socket. `kill` ends the
-    `driver` of this machine or the `server`."""
+    `driver` of this machine, or the `server`."""
 
     def __init__(
         self, port: int, path: pathlib.Path, cards: list[Card], kill: Callable[[str], None]
@@ -170,7 +173,7 @@ class Magazine(threading.Thread):
     # ---- the card handler
 
     def order(self, words: list[str]) -> str:
-        """Does what the driver wants, and returns the line for it."""
+        """Executes an order of the driver, and returns the response line."""
         if words == ["next"]:
             return self.feed()
         [out, tray] = words
@@ -216,7 +219,7 @@ class Magazine(threading.Thread):
     def from_reader(self, link: socket.socket) -> None:
         card = self.card
         assert card
-        # vpcd sends the length and the bytes apart, and TCP would wait for an acknowledgement.
+        # vpcd sends the length and the bytes separately, and TCP would wait for an acknowledgement.
         link.setsockopt(socket.IPPROTO_TCP, socket.TCP_QUICKACK, 1)
         data = exactly(link, *struct.unpack("!H", exactly(link, 2)))
         if data == bytes([ATR]):
@@ -232,7 +235,7 @@ class Magazine(threading.Thread):
             if fault in ("mute", "pull", "gone"):
                 self.pull()
 
-    # ---- both
+    # ---- the loop
 
     def run(self) -> None:
         while True:

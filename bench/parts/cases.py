@@ -1,4 +1,4 @@
-"""The files of worked examples, as docs/WORKED.md has them: their cases, with all short forms written out, as messages and what must come."""
+"""Parses files of worked examples, whose format is in docs/WORKED.md, into messages and their expected responses."""
 import re
 from typing import NamedTuple, Optional
 
@@ -28,7 +28,7 @@ class Line(NamedTuple):
 
 
 class Ask(NamedTuple):
-    """A message, the line that asks it, and the bytes that must come; None for whatever comes."""
+    """A message, its line number, and the expected bytes; None if any bytes are accepted."""
 
     line: int
     message: bytes
@@ -42,14 +42,14 @@ class Case(NamedTuple):
 
 
 class BadForm(Exception):
-    """A line of no form."""
+    """A line that doesn't follow the format."""
 
 
 # ---- lines
 
 
 def written_out(text: str, n: Optional[int]) -> str:
-    """A line with its short forms written out."""
+    """Returns a line with its short forms expanded."""
 
     def made(found: re.Match[str]) -> str:
         inside = found[1]
@@ -62,7 +62,7 @@ def written_out(text: str, n: Optional[int]) -> str:
 
 
 def lines_of(raws: list[tuple[int, str]]) -> list[Line]:
-    """The lines of a case. The answers right behind a repeated ask are those of each of its asks."""
+    """Returns the lines of a case. The answers directly after a repeated request are used for each repetition."""
     lines, place = [], 0
     while place < len(raws):
         number, raw = raws[place]
@@ -81,7 +81,7 @@ def lines_of(raws: list[tuple[int, str]]) -> list[Line]:
 
 
 def titled(text: str) -> list[tuple[str, list[Line]]]:
-    """The cases of a file, each with its title."""
+    """Returns the cases of a file with their titles."""
     found: list[tuple[str, list[tuple[int, str]]]] = []
     for number, line in enumerate(text.split("\n"), 1):
         if line.startswith("== "):
@@ -94,16 +94,16 @@ def titled(text: str) -> list[tuple[str, list[Line]]]:
     return [(title, lines_of(raws)) for title, raws in found]
 
 
-# ---- what must come
+# ---- expected responses
 
 
 def spelt(text: str) -> bytes:
-    """The bytes that a line spells."""
+    """Returns the bytes that a line denotes."""
     return ESCAPE.sub(lambda found: bytes([int(found[1], 16)]) if found[1] else ONE[found[2]], text.encode())
 
 
 def wanted_of(answers: list[str]) -> Optional[bytes]:
-    """The bytes that must come: b"" for nothing, None for whatever comes."""
+    """Returns the expected bytes: b"" for an empty response, None if any response is accepted."""
     first = answers[0]
     if first in ("any", "nothing"):
         return None if first == "any" else b""
@@ -118,7 +118,7 @@ def wanted_of(answers: list[str]) -> Optional[bytes]:
 
 
 def answers_at(lines: list[Line], place: int) -> list[str]:
-    """The answers from there on, up to the next ask."""
+    """Returns the answers from `place` up to the next request."""
     answers = []
     while place < len(lines) and lines[place].is_answer:
         answers.append(lines[place].text)
@@ -142,7 +142,7 @@ def with_set_up(lines: list[Line]) -> list[Line]:
 
 
 def asked(lines: list[Line], place: int) -> tuple[bytes, int]:
-    """The message that begins at this line, and where the next line stands."""
+    """Returns the message that begins at `place`, and the index of the line after it."""
     first, _, rest = lines[place].text.partition(" ")
     if first == "get":
         return get(rest), place + 1
@@ -159,7 +159,7 @@ def asked(lines: list[Line], place: int) -> tuple[bytes, int]:
 
 
 def raw_post(target: str, body: bytes) -> bytes:
-    """A POST to any target, also one with a number or a name that isn't any."""
+    """Returns a POST to any target, even one with an invalid number or name."""
     return post("", 0, body).replace(b"/c//0", target.encode(), 1)
 
 

@@ -1,4 +1,4 @@
-"""Event lines, as docs/EVENTS.md has them: how bytes of others stand in them, and what a file of them has."""
+"""Reads event lines, which docs/EVENTS.md describes, and runs programs that write them."""
 import pathlib
 import subprocess
 import sys
@@ -11,7 +11,7 @@ PLAIN = set(range(32, 127)) - set(b'"\\')
 
 
 def quoted(data: bytes) -> str:
-    """Bytes that someone else chose, as they stand in a line."""
+    """Returns bytes that a client or a file supplied, as an event line shows them."""
     return '"' + "".join(chr(byte) if byte in PLAIN else f"\\x{byte:02X}" for byte in data) + '"'
 
 
@@ -20,7 +20,7 @@ def path(file: pathlib.Path) -> str:
 
 
 def lines(events: pathlib.Path, count: int = 0) -> list[str]:
-    """The lines so far, once there are so many: that of a connection comes after its reply."""
+    """Returns the event lines. Waits until there are `count`, because the line of a connection is written after its reply."""
     for _ in range(100):
         found = events.read_text("ascii").splitlines()
         if len(found) >= count:
@@ -30,13 +30,13 @@ def lines(events: pathlib.Path, count: int = 0) -> list[str]:
 
 
 def expect(what: str, came: object, wanted: object) -> None:
-    """Ends the run where something else came."""
+    """Ends the run if `came` differs from `wanted`."""
     if came != wanted:
-        sys.exit(f"{what}:\n  wanted {wanted!r}\n  came   {came!r}")
+        sys.exit(f"{what}:\n  expected {wanted!r}\n  found    {came!r}")
 
 
 class Ran(NamedTuple):
-    """What a run of the program came to: its status, what it printed, and its event lines with the words of its end."""
+    """The result of a run: the exit status, the lines on standard output, and the lines on standard error."""
 
     status: int
     printed: list[str]
@@ -46,7 +46,7 @@ class Ran(NamedTuple):
 def run(
     program: str, *words: object, typed: str = "", level: str = "1", user: str | None = None, seconds: float = 600, umask: int = -1
 ) -> Ran:
-    """Runs it to its end. `user` is a name whose rights it has, and -1 stands for the umask of this process."""
+    """Runs a program to its end. `user` is the user to run it as. `umask` -1 keeps the umask of this process."""
     ran = subprocess.run(
         [program, *map(str, words)], input=typed, capture_output=True, text=True, env=environment(level), user=user, timeout=seconds,
         umask=umask,

@@ -1,4 +1,4 @@
-"""What C's SQLite reads in a copy of a server's file and of the log beside it."""
+"""Reads a copy of a server's database file and its WAL with the SQLite library."""
 import pathlib
 import shutil
 import sqlite3
@@ -10,7 +10,7 @@ Found = TypeVar("Found")
 
 
 def looked(database: pathlib.Path, look: Callable[[sqlite3.Connection], Found]) -> Found:
-    """What a look at a copy finds. The server has the file for itself while it runs."""
+    """Returns the result of `look` on a copy. The server holds a lock on the file while it runs."""
     with tempfile.TemporaryDirectory() as folder:
         copy = pathlib.Path(folder) / "copy.db"
         for end in ("", "-wal"):
@@ -32,5 +32,5 @@ def is_whole(link: sqlite3.Connection) -> bool:
 
 
 def all_rows(link: sqlite3.Connection) -> dict[str, list[Any]]:
-    """The rows of each table, in an order of their own."""
+    """Returns the rows of each table, sorted."""
     return {table: sorted(link.execute(f"SELECT * FROM {table}").fetchall()) for table in TABLES}

@@ -1,4 +1,4 @@
-"""nginx with a file of service/, in front of a server of this machine. Only addresses, ports and the folder of the certificates are replaced."""
+"""Runs nginx with a file of service/ in front of a server on this machine. Only addresses, ports and certificate paths are replaced."""
 import pathlib
 import socket
 import ssl
@@ -26,14 +26,14 @@ http {{
 
 
 class Answer(NamedTuple):
-    """The status and body of a response. Status 0: the connection was closed without one."""
+    """The status and body of a response. Status 0 means that the connection was closed without a response."""
 
     status: int
     body: bytes
 
 
 def message(method: str, target: str, body: Union[bytes, str] = b"", headers: Optional[dict[str, str]] = None, host: Optional[str] = NAME) -> bytes:
-    """A request as a client library sends it. With a header Transfer-Encoding the body must already be in chunks."""
+    """Returns a request as a client library sends it. With a header Transfer-Encoding, `body` must already be in chunks."""
     raw = body.encode() if isinstance(body, str) else body
     lines = {"Connection": "close"} | ({"Host": host} if host else {}) | (headers or {})
     if "Transfer-Encoding" not in lines and "Content-Length" not in lines and (raw or method == "POST"):
@@ -42,14 +42,14 @@ def message(method: str, target: str, body: Union[bytes, str] = b"", headers: Op
 
 
 def chunks(body: str, size: int = 1) -> bytes:
-    """A body in chunks of this size."""
+    """Returns a body in chunks of `size` bytes."""
     raw = body.encode()
     pieces = [raw[place : place + size] for place in range(0, len(raw), size)]
     return b"".join(b"%x\r\n%s\r\n" % (len(piece), piece) for piece in [*pieces, b""])
 
 
 class Certificates:
-    """A CA, and a certificate of the server and of each client. `other office` has one of another CA, and `m1 of a shop` a longer subject."""
+    """A CA, and certificates for the server and each client. `other office` has a certificate of another CA, and `m1 of a shop` a longer subject."""
 
     SUBJECTS = {NAME: f"/CN={NAME}", **{client: f"/CN={client}" for client in ADDRESSES}, "m1 of a shop": "/O=shop/CN=m1", "other office": "/CN=office"}
 
@@ -78,7 +78,7 @@ class Certificates:
 
 
 class Proxy:
-    """nginx with this text of a file. Clients are told apart by their address, or by their certificate."""
+    """nginx with the configuration `text`. It recognises clients by their address or their certificate."""
 
     def __init__(self, text: str, server_port: int, folder: pathlib.Path, certificates: Optional[Certificates]) -> None:
         self.port, self.folder, self.certificates, self.numbers = free_port(), folder, certificates, {}
@@ -114,7 +114,7 @@ class Proxy:
         return self.certificates.wrapped(link, client, server) if self.certificates else link
 
     def exchange(self, client: Optional[str], *pieces: bytes, server: Optional[str] = NAME, pause: float = 0) -> Answer:
-        """Sends the pieces, with pauses between them, and reads the first response."""
+        """Sends the pieces with pauses between them, and returns the first response."""
         with self.connect(client, server) as link:
             for place, piece in enumerate(pieces):
                 time.sleep(pause if place else 0)
@@ -126,12 +126,12 @@ class Proxy:
         return self.exchange(client, message(method, target, body, **more))
 
     def number(self, name: str) -> int:
-        """A new request number of this client."""
+        """Returns a new request number of the client `name`."""
         self.numbers[name] = self.numbers.get(name, 0) + 1
         return self.numbers[name]
 
     def post(self, client: str, body: Union[bytes, str], name: str = "", tail: str = "", **more: object) -> Answer:
-        """Sends a request under the client's own name, or another, with a new request number."""
+        """Sends a request of `client` under its own name, or under `name`, with a new request number."""
         name = name or client
         return self.ask(client, "POST", f"/c/{name}/{self.number(name)}{tail}", body, **more)
 

@@ -1,4 +1,4 @@
-"""Peers that mean no good: what they send, by a seed, and all that may come back."""
+"""Draws hostile messages by a seed, and checks the responses to them."""
 import random
 import socket
 import struct
@@ -17,7 +17,7 @@ DROP = 0.5
 
 
 class Peer(NamedTuple):
-    """Its bytes, and what must come back; None for any whole reply but 503, or nothing."""
+    """A hostile message, and the expected response; None for any complete response except 503, or none."""
 
     kind: str
     message: bytes
@@ -38,14 +38,14 @@ def noise(draw: random.Random) -> Peer:
 
 
 def lines(draw: random.Random) -> Peer:
-    """A head of too many lines, or without an end."""
+    """Returns a request head with too many lines, or without an end."""
     if draw.random() < 0.5:
         return Peer("lines", b"GET /blanks/P1 HTTP/1.1\r\n" + b"A: b\r\n" * draw.randint(33, 1000) + b"\r\n", HEAD)
     return Peer("lines", b"GET /" + b"a" * draw.randint(MOST_HEAD, 100_000), HEAD)
 
 
 def lengths(draw: random.Random) -> Peer:
-    """A length that is none, or too large, or two."""
+    """Returns a request with an invalid, an excessive or a second length."""
     length, wanted = draw.choice((
         (b"Content-Length: 16777217", TOO_LARGE), (b"Content-Length: " + b"9" * draw.randint(9, 1000), TOO_LARGE),
         (b"Content-Length: -1", BAD), (b"Content-Length: 1e3", BAD), (b"Content-Length: 5\r\nContent-Length: 5", BAD),
@@ -55,7 +55,7 @@ def lengths(draw: random.Random) -> Peer:
 
 
 def texts(draw: random.Random) -> Peer:
-    """A body that is no request."""
+    """Returns a request with an invalid body."""
     depth = draw.choice((10, 127, 128, 1000, 100_000))
     body = draw.choice((
         b'{"do":' + b"[" * depth, b"[" * depth + b"]" * depth, b'{"a":' * depth, draw.randbytes(300), b'"' * 1000, b'{"do":"abort","session":1e999}',
@@ -74,7 +74,7 @@ def targets(draw: random.Random) -> Peer:
 
 
 def changed(draw: random.Random) -> Peer:
-    """A sound GET with a few bytes changed."""
+    """Returns a valid GET with a few bytes changed."""
     data = bytearray(b"GET /batch/B1/report HTTP/1.1\r\nHost: localhost\r\nAccept: */*\r\nContent-Length: 2\r\n\r\n{}")
     for _ in range(draw.randint(1, 4)):
         data[draw.randrange(len(data))] = draw.randrange(256)
@@ -82,7 +82,7 @@ def changed(draw: random.Random) -> Peer:
 
 
 def protocols(draw: random.Random) -> Peer:
-    """Greetings of other protocols."""
+    """Returns the first message of another protocol."""
     hello = b"\x16\x03\x01\x02\x00\x01\x00\x01\xfc\x03\x03" + draw.randbytes(508)
     data, wanted = draw.choice((
         (b"PRI * HTTP/2.0\r\n\r\nSM\r\n\r\n", BAD), (b"GET /\r\n\r\n", BAD), (b"SSH-2.0-evil\r\n\r\n", BAD), (b"EHLO evil\r\n\r\n", BAD),
@@ -92,18 +92,18 @@ def protocols(draw: random.Random) -> Peer:
 
 
 def refused(draw: random.Random) -> Peer:
-    """A request that is right, and refused; it is kept, under a number that may have come before."""
+    """Returns a valid request that is refused. Its refusal is kept, under a request number that may have been used before."""
     return Peer("refused", request(EVIL, draw.randint(1, 50), do="abort", session=999_999_999), UNKNOWN)
 
 
 def short(draw: random.Random) -> Peer:
-    """A request that would be accepted, and ends in front of its last byte."""
+    """Returns a request that would be accepted, but ends before its last byte."""
     message = request(EVIL, draw.randint(1, 50), do="product", product="evil", max=255, low=0, check=False)
     return Peer("short", message[: draw.randrange(len(message))], b"")
 
 
 def large(draw: random.Random) -> Peer:
-    """A body as long as may be, of what is refused."""
+    """Returns an invalid body of the maximum length."""
     body = draw.choice((b" ", b"[", b"\0")) * MOST_FILE
     return Peer("large", post(EVIL, 1, body), BAD)
 
@@ -115,17 +115,17 @@ def some_peer(draw: random.Random) -> Peer:
     return draw.choices(list(KINDS), list(KINDS.values()))[0](draw)
 
 
-# ---- how they go on
+# ---- sending
 
 
 def reset(peer: socket.socket) -> None:
-    """Closes so that the other end finds the connection reset."""
+    """Closes the connection with a reset."""
     peer.setsockopt(socket.SOL_SOCKET, socket.SO_LINGER, struct.pack("ii", 1, 0))
     peer.close()
 
 
 def finished(peer: socket.socket, message: bytes) -> bytes:
-    """Sends all, promises nothing more, and takes what comes."""
+    """Sends the whole message, closes the sending side, and returns the response."""
     sent(peer, message)
     try:
         peer.shutdown(socket.SHUT_WR)
@@ -135,14 +135,14 @@ def finished(peer: socket.socket, message: bytes) -> bytes:
 
 
 def silent(peer: socket.socket, draw: random.Random) -> bytes:
-    """Sends a beginning of a request, and then nothing."""
+    """Sends a prefix of a request, then nothing more, and returns the response."""
     message = request(EVIL, 60, do="product", product="evil", max=255, low=0, check=False)
     sent(peer, message[: draw.choice((0, 1, 30, len(message) - 1))])
     return received(peer)
 
 
 def dripping(peer: socket.socket, draw: random.Random) -> bytes:
-    """Sends a byte now and then, as long as someone takes it."""
+    """Sends one byte at a time, with pauses, until the server responds or closes the connection."""
     message = post(EVIL, 61, b" " * draw.randint(1000, 9000))
     peer.settimeout(DROP)
     for byte in message:

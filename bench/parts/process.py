@@ -1,4 +1,4 @@
-"""Runs of a program and what they cost: the best time of several, and the highest resident size. Linux alone."""
+"""Measures runs of a program: the best time of several runs, and the peak resident size. Requires Linux."""
 import fcntl
 import os
 import pathlib
@@ -10,7 +10,7 @@ PIPE = 4096
 
 
 def is_waiting(child: int) -> bool:
-    """Whether the process sleeps, as it does in a write to a full pipe."""
+    """Returns whether the process sleeps, as in a write to a full pipe."""
     return pathlib.Path(f"/proc/{child}/stat").read_text().rpartition(")")[2].split()[0] == "S"
 
 
@@ -32,8 +32,8 @@ def best_time(words: list[str], path: pathlib.Path, runs: int) -> float:
 
 
 def peak(words: list[str], path: pathlib.Path, filled: int, taken: int, stream: str = "stdout") -> int:
-    """Starts with `filled` bytes in the pipe for the output, or for standard error, takes `taken` out of it, waits for the
-    program to stand still in a write, and looks."""
+    """Returns the peak memory of a program at a chosen point of its output. The pipe for its output (`stream`) begins with `filled` bytes. This
+    function takes `taken` bytes out of it, waits until the program blocks in a write, and reads the peak."""
     with path.open("rb") as source:
         ours, theirs = os.pipe()
         fcntl.fcntl(ours, fcntl.F_SETPIPE_SZ, PIPE)

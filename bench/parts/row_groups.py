@@ -1,9 +1,9 @@
-"""The rows of a batch file, by their records, and those of a record by application and rank."""
+"""Groups the rows of a batch file by record, and the rows of a record by application and rank."""
 from typing import Protocol, Sequence, TypeVar
 
 
 class Placed(Protocol):
-    """A row as far as these read it."""
+    """The columns of a row that these functions read."""
 
     @property
     def record(self) -> str: ...
@@ -19,7 +19,7 @@ Row = TypeVar("Row", bound=Placed)
 
 
 def by_record(rows: Sequence[Row]) -> dict[str, list[Row]]:
-    """The rows of each record, the records by first appearance."""
+    """Returns the rows of each record. Records are in the order of their first rows."""
     made: dict[str, list[Row]] = {}
     for row in rows:
         made.setdefault(row.record, []).append(row)
@@ -27,7 +27,8 @@ def by_record(rows: Sequence[Row]) -> dict[str, list[Row]]:
 
 
 def segments_of(rows: Sequence[Row]) -> dict[bytes, dict[int, list[Row]]]:
-    """A record's applications by first appearance, and the rows of each by rising rank."""
+    """Returns the rows of each application of a record, grouped by rank. Applications are in the
+    order of their first rows, and ranks ascend."""
     made: dict[bytes, dict[int, list[Row]]] = {}
     for row in rows:
         made.setdefault(row.aid, {}).setdefault(row.rank, []).append(row)

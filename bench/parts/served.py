@@ -1,4 +1,4 @@
-"""`persod serve` as a process over a file, and messages to it over loopback. Linux alone."""
+"""Runs `persod serve` as a process on a database file, and sends messages to it over the loopback interface. Requires Linux."""
 import atexit
 import json
 import os
@@ -16,7 +16,7 @@ PATIENCE = 600
 
 
 class Stopped(Exception):
-    """The server ended before it listened: its status, and what it printed."""
+    """The server exited before it listened. Has its status and its output."""
 
     def __init__(self, status: int, printed: str) -> None:
         super().__init__(f"status {status}, {printed!r}")
@@ -24,8 +24,8 @@ class Stopped(Exception):
 
 
 class Server:
-    """A server over a file. It listens as soon as it is made, unless `wait` is false. With a path for its event lines it appends them
-    there, the usual ones or those of another level."""
+    """A server on a database file. The constructor waits until the server listens, unless `wait` is false. If `events` is a path, the server
+    appends its event lines there. `level` is the value of PERSOD_LOG."""
 
     def __init__(
         self, program: str, database: pathlib.Path, port: int, turns: int = MOST_TURNS, wait: bool = True, events: Optional[pathlib.Path] = None,
@@ -46,7 +46,7 @@ class Server:
         return [program, "serve", "--db", str(database), "--port", str(self.port), "--turns", str(self.turns)]
 
     def listen(self) -> float:
-        """Waits until it listens, and answers how many seconds that took."""
+        """Waits until the server listens, and returns the time in seconds."""
         assert self.process.stdout
         line = self.process.stdout.readline()
         took = time.monotonic() - self.begun
@@ -56,35 +56,35 @@ class Server:
         return took
 
     def wait(self) -> tuple[int, str]:
-        """Its status, and what it printed that wasn't read yet."""
+        """Returns the exit status, and the output that wasn't read yet."""
         out, err = self.process.communicate(timeout=PATIENCE)
         return self.process.returncode, (out + (err or b"")).decode()
 
     def served(self) -> None:
-        """It ends by itself, after all its turns."""
+        """Waits until the server has served all connections, and ends the run if its exit was not normal."""
         status, printed = self.wait()
         if (status, printed) != (0, f"served {self.turns}\n"):
-            sys.exit(f"the server's end: status {status}, {printed!r}, and not 0, 'served {self.turns}'")
+            sys.exit(f"the server exited with status {status}, {printed!r}; expected 0, 'served {self.turns}'")
 
     def kill(self) -> None:
         self.process.send_signal(signal.SIGKILL)
         self.process.communicate()
 
     def resident(self) -> int:
-        """How many bytes of it are in memory."""
+        """Returns the resident size in bytes."""
         return _status(self.process.pid, "VmRSS")
 
     def peak(self) -> int:
-        """How many were, at most."""
+        """Returns the peak resident size in bytes."""
         return _status(self.process.pid, "VmHWM")
 
     def processor(self) -> float:
-        """The processor time so far, in seconds."""
+        """Returns the processor time used so far, in seconds."""
         return int(pathlib.Path(f"/proc/{self.process.pid}/schedstat").read_text().split()[0]) / 1e9
 
 
 def environment(level: str) -> dict[str, str]:
-    """What a program finds in its environment: event lines of this level, or none."""
+    """Returns the environment of a program, with event lines of `level`, or without them if it is empty."""
     others = {name: value for name, value in os.environ.items() if name != "PERSOD_LOG"}
     return {**others, "PERSOD_LOG": level} if level else others
 
@@ -106,7 +106,7 @@ def free_port() -> int:
 
 
 def post(client: str, number: int, body: Union[bytes, str], tail: str = "") -> bytes:
-    """A text is sent in UTF-8."""
+    """Returns a POST of `body`. A text is encoded in UTF-8."""
     raw = body.encode() if isinstance(body, str) else body
     head = f"POST /c/{client}/{number}{tail} HTTP/1.1\r\nHost: localhost\r\nContent-Length: {len(raw)}\r\n\r\n"
     return head.encode() + raw
@@ -134,7 +134,7 @@ def connect(port: int) -> socket.socket:
 
 
 def sent(peer: socket.socket, message: bytes) -> None:
-    """Sends it, or as much of it as the peer takes: one that refuses a head closes in front of the body."""
+    """Sends a message, or as much of it as the peer accepts. A peer that refuses the head closes the connection before it reads the body."""
     try:
         peer.sendall(message)
     except (BrokenPipeError, ConnectionResetError):
@@ -142,7 +142,7 @@ def sent(peer: socket.socket, message: bytes) -> None:
 
 
 def received(peer: socket.socket) -> bytes:
-    """All that comes until the end. A connection that is reset ends too."""
+    """Returns all bytes up to the end of the connection. A reset also ends it."""
     pieces = []
     try:
         while piece := peer.recv(65536):
@@ -153,7 +153,7 @@ def received(peer: socket.socket) -> bytes:
 
 
 def exchange(port: int, message: bytes, piece: Optional[int] = None, end: bool = False) -> bytes:
-    """What comes back for a message, which goes in pieces of so many bytes; with `end` nothing more is promised behind it."""
+    """Sends a message in pieces of `piece` bytes, or whole, and returns the response. With `end`, closes the sending side afterwards."""
     with connect(port) as peer:
         for begin in range(0, len(message), piece or max(len(message), 1)):
             sent(peer, message[begin : begin + piece] if piece else message)
@@ -166,7 +166,7 @@ def exchange(port: int, message: bytes, piece: Optional[int] = None, end: bool =
 
 
 def parts(reply: bytes) -> Optional[tuple[int, bytes]]:
-    """The status and the body of a whole reply, or None."""
+    """Returns the status and the body of a complete response, otherwise None."""
     head, found, body = reply.partition(b"\r\n\r\n")
     lines = head.split(b"\r\n")
     lengths = [line[16:] for line in lines if line.startswith(b"Content-Length: ")]
@@ -188,13 +188,13 @@ PHRASES = {
 
 
 def reply_bytes(status: int, body: bytes, kind: str = "application/json", allow: Optional[str] = None) -> bytes:
-    """A whole reply with this body. `allow` is the method of a 405."""
+    """Returns a complete response with `body`. `allow` is the allowed method in a 405."""
     head = f"HTTP/1.1 {status} {PHRASES[status]}\r\nContent-Type: {kind}\r\nContent-Length: {len(body)}\r\nConnection: close\r\n"
     return (head + (f"Allow: {allow}\r\n" if allow else "") + "\r\n").encode() + body
 
 
 def fixed_reply(status: int, name: str) -> bytes:
-    """One of the replies that are always the same, by its name; of a 405 by the method that is allowed."""
+    """Returns a fixed response by its name. For status 405, `name` is the allowed method."""
     allow, name = (name, "method") if name in ("GET", "POST") else (None, name)
     return reply_bytes(status, f'{{"code":{status},"refused":"{name}"}}'.encode(), allow=allow)
 

@@ -1,6 +1,8 @@
-"""A shop under a seed: machines that make cards, an office that stocks, remakes and closes, and someone who reads accounts, each in a thread of its
-own. Each request and its reply are kept, with the place of each connection among all, so that it can be asked once more in the order in which
-it was decided: a server takes connections in the order in which they were made, and serves one at a time."""
+"""Simulates a card bureau by a seed: machines that make cards, an office that imports, remakes and closes, and a reader of accounts.
+
+Each runs in its own thread. Each request is kept with its reply and with the positions of its connections among all connections, so that anew.py
+can send it again in the order in which the requests were decided: a server accepts connections in the order in which they were made, and serves
+one at a time."""
 import json
 import random
 import threading
@@ -21,7 +23,7 @@ MOST = 1024, 4
 
 @dataclass
 class Sent:
-    """A request or a GET, the places of its connections, and the whole reply once it came."""
+    """A request or a GET, the positions of its connections, and the complete response once it has arrived."""
 
     client: str
     number: int
@@ -32,7 +34,7 @@ class Sent:
     reply: Optional[bytes] = None
 
     def place(self) -> int:
-        """The connection in which it was decided."""
+        """Returns the connection in which the request was decided."""
         return self.turns[-1] if self.decided is None else self.decided
 
 
@@ -41,7 +43,7 @@ class Wrong(Exception):
 
 
 class Shop:
-    """Everyone's connections to the server on a port, and the batches that are there."""
+    """All connections to the server on `port`, and the batches that exist."""
 
     def __init__(self, port: int) -> None:
         self.port = port
@@ -53,7 +55,7 @@ class Shop:
         self.wrong: list[str] = []
 
     def ask(self, client: str, number: int, message: bytes, is_first: bool = True) -> tuple[int, Any]:
-        """Asks until there is a whole reply that isn't 503, and gives its status and its JSON, or the text of a report."""
+        """Sends a request until a complete response other than 503 arrives. Returns its status, and its JSON object or the text of a report."""
         sent = Sent(client, number, message, is_first)
         with self.lock:
             self.sent.append(sent)
@@ -66,7 +68,7 @@ class Shop:
             time.sleep(PAUSE)
 
     def once(self, sent: Sent) -> bytes:
-        """One try. A message is sent before another connection is made, so that it is served before that one's, and its place is known."""
+        """Sends a request once. The message is sent before another connection is made, so it is served before the other, and its position is known."""
         try:
             with self.lock:
                 peer = connect(self.port)
@@ -79,13 +81,13 @@ class Shop:
             return b""
 
     def run(self, works: list[Callable[[], None]]) -> list[threading.Thread]:
-        """Starts them, each to be done again and again until it is over."""
+        """Starts a thread for each of `works`, which repeats it until the run is over."""
 
         def work(once: Callable[[], None]) -> None:
             try:
                 while not self.is_over.is_set():
                     once()
-            except Exception as fault:  # noqa: BLE001 whoever waits finds it in `wrong`
+            except Exception as fault:  # noqa: BLE001 the main thread finds it in `wrong`
                 self.wrong.append(repr(fault))
                 self.is_over.set()
 
@@ -96,7 +98,7 @@ class Shop:
 
 
 class Client:
-    """Who asks under a name, by numbers of its own. Every reply is looked at."""
+    """A client with its own request numbers. It checks every reply."""
 
     def __init__(self, shop: Shop, name: str, seed: str) -> None:
         self.shop, self.name, self.draw = shop, name, random.Random(f"{seed}/{name}")
@@ -104,7 +106,7 @@ class Client:
         self.replies: list[tuple[int, bytes, int, Any]] = []
 
     def ask(self, *codes: int, **members: Any) -> tuple[int, Any]:
-        """The reply to a request under the next number. It has to be accepted, or refused by one of these codes."""
+        """Sends a request under the next number, and returns the reply. The request must be accepted, or refused with one of `codes`."""
         return self.send(request(self.name, self.number + 1, **members), codes)
 
     def send(self, message: bytes, codes: tuple[int, ...] = ()) -> tuple[int, Any]:
@@ -116,7 +118,7 @@ class Client:
         return status, reply
 
     def again(self) -> None:
-        """Asks something again that was answered before, or something else under its number."""
+        """Repeats an earlier request, or sends a different one under its number."""
         if not self.replies:
             return
         number, message, *first = self.draw.choice(self.replies[-50:])
@@ -127,7 +129,7 @@ class Client:
         if number <= self.mark and first[0] != 400:
             first = [409, {"code": 73, "mark": self.mark, "refused": "number-released"}]
         if (came := list(self.shop.ask(self.name, number, message, is_first=False))) != first:
-            raise Wrong(f"{message!r} again: {came}, and not {first}")
+            raise Wrong(f"{message!r} repeated: {came}, expected {first}")
 
     def release(self, upto: int) -> None:
         self.mark = max(self.mark, upto)
@@ -137,21 +139,21 @@ class Client:
 
 
 class Machine(Client):
-    """Makes cards of any batch. Some words stop, some cards are given up, and now and then it starts anew."""
+    """A machine that makes cards of any batch. Some status words spoil the card, some sessions are aborted, and sometimes the driver restarts."""
 
     def __init__(self, shop: Shop, name: str, seed: str, first: int, faults: float = 0.02) -> None:
         super().__init__(shop, name, seed)
         self.boot, self.blank, self.faults, self.good = 0, first, faults, 0
 
     def start(self) -> None:
-        """Gives up the numbers of earlier starts, and the session that runs."""
+        """Releases the numbers of earlier starts, and ends the running session."""
         self.boot += 1
         self.number = self.boot * STARTS
         self.release(self.number)
         self.ask(do="reset")
 
     def make(self) -> None:
-        """Makes one card, or none where the batch wants none."""
+        """Makes one card, unless no record of the batch is waiting."""
         if self.boot == 0:
             self.start()
         if not self.shop.batches:
@@ -166,7 +168,7 @@ class Machine(Client):
         index = 0
         while reply["result"] == "command":
             if reply["index"] != index:
-                raise Wrong(f"{self.name}: {reply}, and not index {index}")
+                raise Wrong(f"{self.name}: {reply}, expected index {index}")
             reply = self.step(reply)
             index += 1
         self.good += reply["result"] == "good"
@@ -185,8 +187,8 @@ class Machine(Client):
 
 
 class Office(Client):
-    """Makes products and lots known, imports batches, one in ten of them as large as may be, remakes or withdraws what failed, discards blanks, closes
-    what is done."""
+    """The office. It adds products and lots, imports batches (one in ten of the maximum size), remakes or withdraws failed records, discards
+    blanks, and closes finished batches."""
 
     def __init__(self, shop: Shop, seed: str, machines: int, batches: int) -> None:
         super().__init__(shop, "office", seed)
@@ -211,13 +213,13 @@ class Office(Client):
         time.sleep(PAUSE)
 
     def stock(self) -> None:
-        """Product P1 with commands of 40 bytes, a lot for the office and one for each machine."""
+        """Adds product P1 with commands of 40 bytes, one lot for the office and one for each machine."""
         self.ask(do="product", product="P1", max=40, low=0, check=False)
         for lot in range(self.machines + 1):
             self.ask(do="lot", lot=f"L{lot}", product="P1", first=lot * LOT, count=LOT)
 
     def bring(self, records: int, rows: int) -> None:
-        """Imports a batch of so many records with so many rows each."""
+        """Imports a batch of `records` records with `rows` rows each."""
         name = f"B{len(self.shop.batches) + 1}"
         self.send(imported(self.name, self.number + 1, name, "P1", batch_file(self.draw, records, rows)))
         self.shop.batches.append(name)
@@ -232,7 +234,7 @@ class Office(Client):
 
 
 class Reader:
-    """Reads accounts."""
+    """A client that reads accounts."""
 
     def __init__(self, shop: Shop, seed: str) -> None:
         self.shop, self.draw = shop, random.Random(f"{seed}/reader")
@@ -245,7 +247,7 @@ class Reader:
 
 
 def batch_file(draw: random.Random, records: int, rows: int) -> bytes:
-    """A file of so many records with so many rows each, of random data and in one or two applications."""
+    """Returns a batch file of `records` records with `rows` rows each, with random data in one or two applications."""
     lines = [HEADER]
     for record in range(records):
         for row in range(rows):

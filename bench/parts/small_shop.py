@@ -1,4 +1,4 @@
-"""A small shop: one product, one lot of blanks from 1000 on, and one batch, whose cards have two commands each."""
+"""Sets up a small shop: one product, one lot of blanks from 1000, and one batch, whose cards have two commands each."""
 import pathlib
 import sqlite3
 
@@ -11,13 +11,13 @@ FIRST = 1000
 
 
 def batch_file(records: int, size: int = 2) -> bytes:
-    """A file of so many records, each of one grouping of so many data bytes."""
+    """Returns a batch file of `records` records, each with one grouping of `size` data bytes."""
     row = "F00000000101,1,0,0,0101" + f"{size:02X}" + "70" + "00" * (size - 1)
     return "".join(f"{line}\n" for line in [HEADER, *(f"R{place},{row}" for place in range(1, records + 1))]).encode()
 
 
 def set_up(blanks: int, records: int) -> list[bytes]:
-    """The office's first three messages."""
+    """Returns the first three messages of the office."""
     return [
         request("office", 1, do="product", product="P1", max=255, low=0, check=False),
         request("office", 2, do="lot", lot="L1", product="P1", first=FIRST, count=blanks),
@@ -26,7 +26,7 @@ def set_up(blanks: int, records: int) -> list[bytes]:
 
 
 def accepted(port: int, message: bytes) -> bytes:
-    """The reply to a message, which has to be 200."""
+    """Sends a message, and returns the response. Ends the run if its status isn't 200."""
     reply = exchange(port, message)
     expect(f"the status of {message[:60]!r}", (parts(reply) or (0,))[0], 200)
     return reply
@@ -38,7 +38,7 @@ def stock(port: int, blanks: int, records: int) -> None:
 
 
 def kept(database: pathlib.Path) -> list[tuple[int, bytes]]:
-    """Status and body of each reply that a file has, as C's SQLite reads it, in the order of clients and numbers. The file has to be whole."""
+    """Returns the status and body of each kept reply in a database file, ordered by client and number. Ends the run if the file isn't intact."""
     link = sqlite3.connect(database)
     try:
         if is_empty(link):

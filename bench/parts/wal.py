@@ -1,4 +1,4 @@
-"""The frames of a WAL, by SQLite's database file format, section 4, and how many counted commits follow a break in it."""
+"""Reads the frames of a WAL (SQLite's database file format, section 4), and counts the commits after a break in it."""
 import pathlib
 import struct
 from typing import NamedTuple, Optional
@@ -15,7 +15,7 @@ Sum = tuple[int, int]
 
 
 def checksum(start: Sum, data: bytes) -> Sum:
-    """Words have the lowest byte first, as in every WAL that is made on this machine."""
+    """Returns the checksum of `data`. The words are little-endian, as in every WAL that is made on this machine."""
     first, second = start
     for one, two in struct.iter_unpack("<II", data):
         first = (first + one + second) & 0xFFFFFFFF
@@ -32,7 +32,7 @@ class Frame(NamedTuple):
 
 
 class Wal:
-    """A WAL, and the values of each of its frames. The checksum of a known frame isn't computed again."""
+    """A WAL, and the values of its frames. The checksums of known frames are cached."""
 
     known: dict[tuple[Sum, bytes], bool] = {}
 
@@ -67,7 +67,7 @@ class Wal:
         return frame.salts == salts and frame.page != 0 and frame.is_summed
 
     def lost(self) -> int:
-        """Returns how many counted commits begin after the first break."""
+        """Returns the number of counted commits that begin after the first break."""
         if self.is_cleared:
             return 0
         is_whole, count = self.has_header, 0
@@ -78,7 +78,7 @@ class Wal:
         return count
 
     def used(self) -> int:
-        """Returns how many frames recovery takes."""
+        """Returns the number of frames that recovery uses."""
         last = 0
         for place, frame in enumerate(self.frames):
             if not self.has_header or not self.follows(place):
@@ -87,7 +87,7 @@ class Wal:
         return last
 
     def last_commit(self) -> int:
-        """Returns the first frame of the last commit."""
+        """Returns the index of the first frame of the last commit."""
         return max((place for place in range(1, self.used()) if self.frames[place - 1].size), default=0)
 
 
@@ -97,7 +97,7 @@ def flipped(data: bytes, bit: int) -> bytes:
     return bytes(changed)
 
 
-# ---- two files, and what the programs say of them
+# ---- a database file with its WAL, and how the programs open it
 
 
 def wal_of(database: pathlib.Path) -> pathlib.Path:
@@ -135,7 +135,7 @@ class Programs(NamedTuple):
 
 
 def expect_refused(programs: Programs, database: pathlib.Path, what: str, pair: Pair, port: int) -> None:
-    """`serve`, `report` and `shopbook` refuse the two files for this cause, and change neither."""
+    """Checks that `serve`, `report` and `shopbook` refuse the two files with cause `damaged-wal`, and change neither."""
     lines = [f"refused code=81 cause={CAUSE} commits={pair.lost()} db={path(database)}", "refused 81"]
     runs = [(programs.persod, "serve", "--db", database, "--port", port, "--turns", 1)]
     if pair.db is not None:
@@ -148,7 +148,7 @@ def expect_refused(programs: Programs, database: pathlib.Path, what: str, pair: 
 
 
 def expect_not_called_damaged(program: str, database: pathlib.Path, what: str, pair: Pair) -> None:
-    """`report` says nothing of the WAL, whatever else it says."""
+    """Checks that `report` doesn't mention the WAL, whatever else it prints."""
     expect(f"{what}: counted commits after a break", pair.lost(), 0)
     pair.write(database)
     ran = run(program, "report", "--db", database, "--batch", "B1")
