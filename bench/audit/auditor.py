@@ -1,10 +1,11 @@
 #!/usr/bin/env python3
-"""Judges a file by docs/TABLES.md alone: `taken`, `81` where its tables aren't ours, `82` where its rows aren't those of sound contents.
+"""Judges a database file by docs/TABLES.md alone.
 
     python3 bench/audit/auditor.py FILE
 
-prints the verdict, and what was found first. It reads a copy. The status is 0 for `taken` and 1 else. It knows nothing of the program; its
-time grows with the rows and their sorting.
+Prints the verdict and the first finding. The verdict is `taken`, `81` if the tables aren't those of any schema version, or `82` if the rows
+aren't those of sound contents. The script reads a copy and shares no code with persod. Its time grows with the number of rows and with sorting
+them. Exit status: 0 for `taken`, otherwise 1.
 """
 import functools
 import pathlib
@@ -22,12 +23,12 @@ TAKEN, OTHER_TABLES, DAMAGED = "taken", "81", "82"
 LAST = 10 ** 18 - 1
 RUNNING, GOOD, SPOILED = range(3)
 WAITING, IS_RUNNING, FAILED, WITHDRAWN, IS_GOOD = range(5)
-# What an audit finds: each wrong thing in words.
+# The findings of a rule, as texts.
 Findings = Iterator[str]
 
 
 class Verdict(NamedTuple):
-    """The result, the first reason, and the names of the sentences that the rows break."""
+    """The result, the first finding, and the names of the rules that the rows break."""
 
     result: str
     why: str = ""
@@ -35,7 +36,7 @@ class Verdict(NamedTuple):
 
 
 class Tables:
-    """The rows of each table, as records with the columns' names, and what is looked up in them."""
+    """The rows of each table as named tuples, and indexes for lookups."""
 
     def __init__(self, conn: sqlite3.Connection, version: int) -> None:
         self.rows: dict[str, list[Any]] = {"mark": []}
@@ -71,21 +72,21 @@ def grouped(rows: list[Any], key: Callable[[Any], Any]) -> dict[Any, list[Any]]:
     return made
 
 
-# The audit rules. Each of these functions finds the rows that break one rule of docs/TABLES.md, "Audit rules".
+# Audit rules. Each function checks one rule of docs/TABLES.md, "Audit rules", and yields the rows that break it.
 
 
 def names_are_in_range(its: Tables) -> Findings:
-    """Each name is a name."""
+    """Every name is valid."""
     named = {"product": ["name"], "lot": ["name"], "batch": ["name"], "record": ["name"], "session": ["machine"], "reply": ["client"],
              "mark": ["client"]}
     for table, columns in named.items():
         for row in its.rows[table]:
             if not all(is_name(getattr(row, column)) for column in columns):
-                yield f"{table} {row[:2]} has a name that is none"
+                yield f"{table} {row[:2]} has an invalid name"
 
 
 def serials_and_numbers_are_in_range(its: Tables) -> Findings:
-    """Serials are 0 to 10^18 - 1, to the last of each lot, and request numbers and marks 1 to 10^18 - 1."""
+    """Serials are 0 to 10^18 - 1, including the last serial of each lot. Request numbers and release marks are 1 to 10^18 - 1."""
     for lot in its.lots:
         if lot.low_serial < 0 or lot.low_serial + lot.amount - 1 > LAST:
             yield f"lot {lot.name} has serials out of range"
@@ -96,7 +97,7 @@ def serials_and_numbers_are_in_range(its: Tables) -> Findings:
 
 
 def limits_are_kept(its: Tables) -> Findings:
-    """At most 256 products, 4,096 lots and 4,096 batches."""
+    """There are at most 256 products, 4,096 lots and 4,096 batches."""
     for table, most in (("product", 256), ("lot", 4096), ("batch", 4096)):
         if len(its.rows[table]) > most:
             yield f"there are {len(its.rows[table])} rows of {table}"
@@ -111,7 +112,7 @@ def lots_are_apart(its: Tables) -> Findings:
 
 
 def files_give_their_rows(its: Tables) -> Findings:
-    """Each batch's file, read under its product, has no fault, and gives just the batch's rows of `record` and of `grouping2`."""
+    """The file of each batch has no fault under its product, and results in exactly the batch's rows of `record` and `grouping2`."""
     records, groupings = grouped(its.records, lambda it: it.batch), grouped(its.groupings, lambda it: it.batch)
     for batch in its.batches:
         rows = its.files[batch.id]
@@ -127,7 +128,7 @@ def files_give_their_rows(its: Tables) -> Findings:
 
 
 def numbers_have_no_gap(its: Tables) -> Findings:
-    """Ids of batches and sessions count up from 1, places of a session's words from 0, and turns of a record's remakes from 1."""
+    """The ids of batches and sessions count from 1, the places of a session's words from 0, and the turns of a record's remakes from 1."""
     counted: list[tuple[str, list[int], int]] = [("batch", [it.id for it in its.batches], 1), ("session", [it.id for it in its.sessions], 1)]
     counted += [(f"word of session {number}", [it.place for it in rows], 0)
                 for number, rows in grouped(its.rows["word"], lambda it: it.session).items()]
@@ -139,7 +140,7 @@ def numbers_have_no_gap(its: Tables) -> Findings:
 
 
 def sessions_have_their_blanks(its: Tables) -> Findings:
-    """Each session's serial is a blank of kind 0, whose lot has the batch's product, and each such blank has a session."""
+    """The serial of each session is a blank of kind 0 in a lot of the batch's product, and each such blank has a session."""
     for session in its.sessions:
         blank = its.blank_of.get(session.serial)
         if blank is None or blank.kind != 0:
@@ -149,29 +150,30 @@ def sessions_have_their_blanks(its: Tables) -> Findings:
     serials = {it.serial for it in its.sessions}
     for blank in its.blanks:
         if blank.kind == 0 and blank.serial not in serials:
-            yield f"blank {blank.serial} is opened by no session"
+            yield f"blank {blank.serial} has no session"
 
 
 def blanks_lie_in_their_lots(its: Tables) -> Findings:
-    """Each blank's serial lies in its lot."""
+    """The serial of each blank is in its lot."""
     for blank in its.blanks:
         lot = its.lot_named[blank.lot]
         if not lot.low_serial <= blank.serial < lot.low_serial + lot.amount:
-            yield f"blank {blank.serial} doesn't lie in its lot"
+            yield f"blank {blank.serial} isn't in its lot"
 
 
 def words_follow_the_sequence(its: Tables) -> Findings:
-    """A session has at most a word for each command of its record, and only the last may stop it."""
+    """A session has at most one word for each command of its record, and only the last word may stop it."""
     for session in its.sessions:
         words, commands = its.words_of.get(session.id, []), its.commands.get((session.batch, session.place))
         if commands is None or len(words) > commands.count:
             yield f"session {session.id} has too many words for its record"
         elif not all(commands.goes(index, word) for index, word in enumerate(words[:-1])):
-            yield f"session {session.id} goes on behind a word that stops it"
+            yield f"session {session.id} continues after a word that stops it"
 
 
 def standing(its: Tables, session: Any) -> tuple[int, int, tuple[int, int, int, int]] | None:
-    """How a session stands, how many words it has, and where its card stands: at the command behind the words that go."""
+    """Returns the state of a session, the number of its words, and the cursor of its card: the command after the words that let it continue.
+    Returns None if it has too many words."""
     words, commands = its.words_of.get(session.id, []), its.commands.get((session.batch, session.place))
     if commands is None or len(words) > commands.count:
         return None
@@ -181,15 +183,16 @@ def standing(its: Tables, session: Any) -> tuple[int, int, tuple[int, int, int, 
 
 
 def sessions_stand_so(its: Tables) -> Findings:
-    """A session's state, words and cursor are what its words, its record and `ended` say."""
+    """The state, the number of words and the cursor of each session follow from its words, its record and `ended`."""
     for session in its.sessions:
         found = session.state, session.words, (session.app, session.segment, session.at_offset, session.block)
         if found != standing(its, session):
-            yield f"session {session.id} doesn't stand so"
+            yield f"session {session.id} has a wrong state, number of words or cursor"
 
 
 def records_stand_so(its: Tables) -> Findings:
-    """A record's spoiled sessions and remakes are counted, and its state follows; 3 is itself the fact of a withdrawal."""
+    """Each record has the right numbers of spoiled sessions and remakes, and its state follows from its sessions. Only a withdrawal (3) is a fact
+    of its own."""
     remakes = Counter((it.batch, it.place) for it in its.remakes)
     for record in its.records:
         states = [it.state for it in its.sessions_of.get((record.batch, record.place), [])]
@@ -199,30 +202,30 @@ def records_stand_so(its: Tables) -> Findings:
         else:
             state = WITHDRAWN if record.state == WITHDRAWN else FAILED if record.remakes < spoiled else WAITING
         if (record.state, record.spoiled, record.remakes) != (state, spoiled, remakes[record.batch, record.place]):
-            yield f"record {record.batch} {record.place} doesn't stand so"
+            yield f"record {record.batch} {record.place} has a wrong state or counter"
 
 
 def batches_are_counted(its: Tables) -> Findings:
-    """A batch's counters count its records by state, its sessions, and the spoiled ones."""
+    """The counters of each batch are the numbers of its records by state, its sessions, and its spoiled sessions."""
     records = {number: Counter(it.state for it in rows) for number, rows in grouped(its.records, lambda it: it.batch).items()}
     sessions = {number: Counter(it.state for it in rows) for number, rows in grouped(its.sessions, lambda it: it.batch).items()}
     for batch in its.batches:
         states, opened = records.get(batch.id, Counter()), sessions.get(batch.id, Counter())
         found = batch.waiting, batch.running, batch.failed, batch.withdrawn, batch.good, batch.sessions, batch.spoiled
         if found != (*(states[state] for state in range(5)), opened.total(), opened[SPOILED]):
-            yield f"batch {batch.id} is counted wrong"
+            yield f"batch {batch.id} has a wrong counter"
 
 
 def lots_are_counted(its: Tables) -> Findings:
-    """A lot's counter counts its discarded blanks."""
+    """The counter of each lot is the number of its discarded blanks."""
     discarded = Counter(it.lot for it in its.blanks if it.kind == 1)
     for lot in its.lots:
         if lot.discarded != discarded[lot.name]:
-            yield f"lot {lot.name} is counted wrong"
+            yield f"lot {lot.name} has a wrong counter"
 
 
 def withdrawn_records_have_no_card(its: Tables) -> Findings:
-    """A withdrawn record has no good and no running session."""
+    """A withdrawn record has no running and no good session."""
     for record in its.records:
         states = {it.state for it in its.sessions_of.get((record.batch, record.place), [])}
         if record.state == WITHDRAWN and states & {GOOD, RUNNING}:
@@ -237,14 +240,14 @@ def machines_run_once(its: Tables) -> Findings:
 
 
 def records_have_one_card(its: Tables) -> Findings:
-    """Each record has at most one session that runs or is good."""
+    """Each record has at most one session that is running or good."""
     for record, count in Counter((it.batch, it.place) for it in its.sessions if it.state in (RUNNING, GOOD)).items():
         if count > 1:
             yield f"record {record} has {count} cards"
 
 
 def records_are_remade_in_turn(its: Tables) -> Findings:
-    """A record's remakes are as many as its spoiled sessions or one fewer, and as many where a session of it runs or is good."""
+    """A record has as many remakes as spoiled sessions, or one fewer. If it has a running or a good session, the numbers are equal."""
     for record in its.records:
         states = [it.state for it in its.sessions_of.get((record.batch, record.place), [])]
         fewer = states.count(SPOILED) - record.remakes
@@ -261,14 +264,14 @@ def closed_batches_are_finished(its: Tables) -> Findings:
 
 
 def replies_have_their_status(its: Tables) -> Findings:
-    """A kept reply's status is 200 or 409; else it is taken as it stands."""
+    """The status of each kept reply is 200 or 409. The rest of a reply isn't checked."""
     for reply in its.replies:
         if reply.status not in (200, 409):
             yield f"reply {reply.client} {reply.number} has status {reply.status}"
 
 
 def replies_lie_above_marks(its: Tables) -> Findings:
-    """Each number that is kept lies above its client's mark."""
+    """Each kept request number is above the release mark of its client."""
     marks = {it.client: it.upto for it in its.marks}
     for reply in its.replies:
         if reply.number <= marks.get(reply.client, 0):
@@ -283,21 +286,21 @@ AUDIT: list[Callable[[Tables], Findings]] = [
 ]
 
 
-# A file.
+# A database file.
 
 
 def verdict_on_tables(conn: sqlite3.Connection) -> Verdict | int:
-    """The version of the tables, or what SQLite or the document says against them."""
+    """Returns the schema version, or a verdict if SQLite or TABLES.md rejects the tables."""
     version = version_of(conn)
     if version is None:
-        return Verdict(OTHER_TABLES, "its tables aren't those of a version")
+        return Verdict(OTHER_TABLES, "its tables aren't those of any schema version")
     if conn.execute("SELECT id, number FROM version").fetchall() != [(1, version)]:
-        return Verdict(OTHER_TABLES, "its version has another row")
+        return Verdict(OTHER_TABLES, "its version table has other rows")
     broken = conn.execute("PRAGMA integrity_check(1)").fetchone()[0]
     if broken != "ok":
         return Verdict(OTHER_TABLES, broken)
     missing = conn.execute("PRAGMA foreign_key_check").fetchone()
-    return Verdict(OTHER_TABLES, f"a row of {missing[0]} refers to none of {missing[2]}") if missing else version
+    return Verdict(OTHER_TABLES, f"a row of {missing[0]} refers to a missing row of {missing[2]}") if missing else version
 
 
 def verdict_of(conn: sqlite3.Connection) -> Verdict:
@@ -311,7 +314,7 @@ def verdict_of(conn: sqlite3.Connection) -> Verdict:
 
 
 def verdict_on_copy(path: pathlib.Path) -> Verdict:
-    """The verdict on this file, which nothing else reads."""
+    """Returns the verdict on a file that no other program has open."""
     conn = sqlite3.connect(path)
     try:
         return verdict_of(conn)
@@ -322,7 +325,7 @@ def verdict_on_copy(path: pathlib.Path) -> Verdict:
 
 
 def verdict(path: pathlib.Path) -> Verdict:
-    """The verdict on a file and the log beside it, which stay as they are."""
+    """Returns the verdict on a database file and its WAL, and modifies neither."""
     if not path.exists():
         return Verdict(OTHER_TABLES, "there is no file")
     with tempfile.TemporaryDirectory() as folder:

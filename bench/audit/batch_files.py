@@ -1,4 +1,4 @@
-"""Batch files read as docs/PROFILE.md has them: their rows or that there are none, and where a card stands after so many commands."""
+"""Parses batch files as docs/PROFILE.md describes: their rows, and the cursor of a card after each command."""
 import bisect
 import re
 from typing import Iterator, NamedTuple
@@ -36,7 +36,7 @@ def is_name(text: str) -> bool:
 
 
 def fields_of(raw: bytes) -> Iterator[list[bytes]]:
-    """The rows of the file, empty lines left out."""
+    """Yields the fields of each row, except empty lines."""
     at = 3 if raw.startswith(b"\xEF\xBB\xBF") else 0
     at = end_of(LINE_ENDS, raw, at)
     while at < len(raw):
@@ -52,7 +52,7 @@ def fields_of(raw: bytes) -> Iterator[list[bytes]]:
 
 
 def field_at(raw: bytes, at: int) -> tuple[bytes, int]:
-    """A field, and where it ends."""
+    """Returns a field and the position of its end."""
     quoted = QUOTED.match(raw, at)
     front = quoted[1].replace(b'""', b'"') if quoted else b""
     start = quoted.end() if quoted else at
@@ -75,7 +75,7 @@ def bytes_of(field: bytes) -> bytes | None:
 
 
 def sent_form(spelt: bytes | None) -> bytes | None:
-    """The grouping that these bytes spell from end to end, as it is sent; or that there is none."""
+    """Returns the grouping that `spelt` encodes, in the encoding that is sent, or None if it isn't exactly one grouping."""
     if spelt is None or len(spelt) < 3:
         return None
     is_long = spelt[2] == 255
@@ -87,7 +87,7 @@ def sent_form(spelt: bytes | None) -> bytes | None:
 
 
 def row_of(fields: list[bytes], product: Product) -> Row | None:
-    """The row of these fields, if it is without fault by itself."""
+    """Returns the row of these fields, or None if the row by itself has a fault."""
     if len(fields) != 6:
         return None
     name, aid, coded = fields[0].decode("latin-1"), bytes_of(fields[1]), sent_form(bytes_of(fields[5]))
@@ -100,7 +100,7 @@ def row_of(fields: list[bytes], product: Product) -> Row | None:
     return None if product.checked and breaks_check(row) else row
 
 
-# The check of records.
+# The check of EMV records.
 
 
 def breaks_check(row: Row) -> bool:
@@ -114,7 +114,7 @@ def is_record(data: bytes) -> bool:
 
 
 def object_at(data: bytes) -> tuple[bytes, bytes, bytes] | None:
-    """The tag and the value of the object in front, and what is behind it."""
+    """Returns the tag and the value of the first object, and the bytes after it."""
     tag = re.match(rb"[\x00-\xFF][\x80-\xFF]*[\x00-\x7F]" if data and data[0] & 31 == 31 else rb"[\x00-\xFF]", data)
     if tag is None:
         return None
@@ -127,7 +127,7 @@ def object_at(data: bytes) -> tuple[bytes, bytes, bytes] | None:
 
 
 def is_content(data: bytes, depth: int) -> bool:
-    """Whether these are objects of this depth and fillers."""
+    """Returns whether `data` consists of objects at `depth` and filler bytes."""
     while data := data.lstrip(b"\0"):
         found = object_at(data)
         if found is None:
@@ -142,7 +142,7 @@ def is_content(data: bytes, depth: int) -> bool:
 
 
 def rows_of(raw: bytes, product: Product) -> list[Row] | None:
-    """The rows of a file under its product; a file with a fault has none."""
+    """Returns the rows of a batch file under its product, or None if it has a fault."""
     rows: list[Row] = []
     for place, fields in enumerate(fields_of(raw)):
         if place == 0:
@@ -164,7 +164,7 @@ def pieces_of(segment: list[Row], product: Product) -> int:
 
 
 def has_fault(rows: list[Row], product: Product) -> bool:
-    """Whether the rows of one record have differing marks, an identifier twice, or too many blocks."""
+    """Returns whether the rows of a record have different `enc` or `tol` in a segment, a repeated identifier, or too many blocks."""
     for ranks in segments_of(rows).values():
         identifiers = [row.coded[:2] for segment in ranks.values() for row in segment]
         if (any((row.enc, row.tol) != (segment[0].enc, segment[0].tol) for segment in ranks.values() for row in segment)
@@ -178,7 +178,7 @@ def has_fault(rows: list[Row], product: Product) -> bool:
 
 
 class Part(NamedTuple):
-    """A SELECT, whose `segment` is None, or the commands of a segment; `first` is the first one's index in the record's sequence."""
+    """A SELECT, whose `segment` is None, or the commands of a segment. `first` is the index of its first command in the sequence."""
 
     first: int
     app: int
@@ -214,14 +214,14 @@ class Commands:
         return self.parts[bisect.bisect_right(self.starts, index) - 1]
 
     def goes(self, index: int, word: int) -> bool:
-        """Whether the card's word to this command lets the session go on."""
+        """Returns whether the session continues after status word `word` to command `index`."""
         if word == 0x9000 or word >> 8 == 0x61:
             return True
         part = self.part_of(index)
         return word == 0x6A88 and part.is_tolerant and index == part.first + part.pieces - 1
 
     def cursor(self, index: int) -> tuple[int, int, int, int]:
-        """Application, segment, offset and block where a card stands that this command comes next for."""
+        """Returns the cursor of a card whose next command is `index`: application, segment, offset and block."""
         if index == self.count:
             return self.applications, 0, 0, 0
         part = self.part_of(index)

@@ -1,11 +1,15 @@
 #!/usr/bin/env python3
-"""Compares each line of `shopbook` with plain SQL, over sound and damaged files of each version, and the bytes of each file before and after.
+"""Compares each line of `shopbook` with plain SQL, and checks that it doesn't change the files.
 
     bench/run book [--cases N] [--seed TEXT]
 
-The sound files are those of contents.py in each shape of sound_files.py, N that drawn.py draws by the seed, and one that a killed server leaves. Some have their
-rows in a WAL. SQL never reads the file that `shopbook` reads, since SQLite's library would copy and delete the WAL: it reads one with the same rows. The status is
-1 if a line or an exit status is wrong, or if a file or its WAL has other bytes afterwards; `is_left` says which change of a WAL is allowed.
+The sound files are those of contents.py in each shape of sound_files.py, N drawn by drawn.py with the seed, and one of a killed server. Some
+have their rows in a WAL. The script also tries damaged files of each schema version.
+
+SQL never reads the files that `shopbook` reads, because the SQLite library would copy and delete the WAL. It reads files with the same rows.
+
+Exit status: 1 if a line or an exit status is wrong, or if a file or its WAL has changed. `is_left` describes the change of a WAL that is
+allowed.
 """
 import argparse
 import json
@@ -64,7 +68,7 @@ CLIENTS = "SELECT machine FROM session ORDER BY id", "SELECT client FROM reply O
 
 
 class Wanted(NamedTuple):
-    """What a run is to print, and how it is to end."""
+    """The expected output and exit of a run."""
 
     lines: list[Line]
     status: int = 0
@@ -88,7 +92,8 @@ def blank_lines(conn: sqlite3.Connection, product: str, state: str | None) -> li
 
 
 def machine_lines(conn: sqlite3.Connection, version: int) -> list[Line]:
-    """Whoever asked, by first appearance. The next boot is above those of its kept numbers and of its mark."""
+    """Returns the expected lines of `machines`: the clients by first appearance. The next boot number is above those of the kept request numbers
+    and the release mark."""
     marks = dict(conn.execute("SELECT client, upto FROM mark")) if version > 1 else {}
     found = []
     for name in dict.fromkeys(name for sql in CLIENTS[:2 + (version > 1)] for name, in conn.execute(sql)):
@@ -100,7 +105,7 @@ def machine_lines(conn: sqlite3.Connection, version: int) -> list[Line]:
 
 
 def runs(twin: pathlib.Path, version: int, rule: str | None) -> Iterator[tuple[list[str], Wanted]]:
-    """The words of each run over a file with our tables and the rows of its twin, and what is wanted of it."""
+    """Yields the arguments of each run on a file with the same rows as `twin`, and the expected result."""
     conn = sqlite3.connect(twin)
     products = [name for name, in conn.execute("SELECT name FROM product")]
     if rule:
@@ -126,14 +131,14 @@ def runs(twin: pathlib.Path, version: int, rule: str | None) -> Iterator[tuple[l
 
 
 def files_of(path: pathlib.Path) -> dict[str, bytes]:
-    """The bytes of a file and of what is next to it. A WAL without a frame is none."""
+    """Returns the bytes of a file and of the files next to it. A WAL without a frame is left out."""
     found = {end: beside(path, end) for end in ("", "-wal", "-shm", "-journal")}
     return {end: its.read_bytes() for end, its in found.items() if its.exists() and (end == "" or its.stat().st_size > WAL_HEAD + GATE)}
 
 
 def is_left(before: dict[str, bytes], after: dict[str, bytes]) -> bool:
-    """Whether the bytes are as before. Only, if a WAL ends with a frame, as those of SQLite's library do, an open adds nine bytes, as those of ours have: the last
-    of them isn't the first byte of the salt, so that the bytes begin no frame."""
+    """Returns whether the bytes are unchanged. One change is allowed: if a WAL ends with a frame, as SQLite writes it, an open appends nine bytes,
+    as persod's own WAL has them. The last of these bytes differs from the first byte of the salt, so no frame begins with them."""
     wal = before.get("-wal", b"")
     page, salt = int.from_bytes(wal[8:12], "big"), wal[16:17]
     ends_with_frame = len(wal) > WAL_HEAD and (len(wal) - WAL_HEAD) % (FRAME_HEAD + page) == 0
@@ -150,28 +155,28 @@ def object_of(line: Line) -> dict[str, Any]:
 
 
 def difference(program: str, path: pathlib.Path, words: list[str], wanted: Wanted, is_json: bool) -> str | None:
-    """How a run differs from what is wanted."""
+    """Returns how a run differs from the expected result, or None."""
     before = files_of(path)
     run = subprocess.run([program, words[0], "--db", str(path), *words[1:], *(["--json"] if is_json else [])], capture_output=True, timeout=SECONDS)
     text = run.stdout.decode()
     found = Page(text).lines if words[0] == "sheet" else text.splitlines()
     error = run.stderr.decode().splitlines()[-1:]
     if is_json and (lines := [json.loads(line) for line in found]) != (right := [object_of(line) for line in wanted.lines]):
-        return next((f"{one} in place of {other}" for one, other in zip(lines, right) if one != other), f"{len(lines)} lines in place of {len(right)}")
+        return next((f"{one} instead of {other}" for one, other in zip(lines, right) if one != other), f"{len(lines)} lines instead of {len(right)}")
     if not is_json and found != (texts := [text_of(line) for line in wanted.lines]):
-        return next((f"{one} in place of {other}" for one, other in zip(found, texts) if one != other), f"{len(found)} lines in place of {len(texts)}")
+        return next((f"{one} instead of {other}" for one, other in zip(found, texts) if one != other), f"{len(found)} lines instead of {len(texts)}")
     if (run.returncode, error) != (wanted.status, [wanted.error] if wanted.error else []):
         return f"status {run.returncode} and {error}"
-    return None if is_left(before, files_of(path)) else "the file or its WAL has other bytes"
+    return None if is_left(before, files_of(path)) else "the file or its WAL has changed"
 
 
 DAMAGES = {
     "a lot's counter": ("UPDATE lot SET discarded = discarded + 1", "lot-counters"),
     "a batch's counter": ("UPDATE batch SET good = good + 1", "files"),
     "a session's state": ("UPDATE session SET state = 2 WHERE id = 2", "files"),
-    "a word more": ("INSERT INTO word VALUES (1, 2, 36864)", "files"),
-    "a blank more": ("INSERT INTO blank VALUES (1002, 'L1', 0)", "opened-blanks"),
-    "a remake more": ("INSERT INTO remake VALUES (1, 0, 2)", "remakes"),
+    "an additional word": ("INSERT INTO word VALUES (1, 2, 36864)", "files"),
+    "an additional blank": ("INSERT INTO blank VALUES (1002, 'L1', 0)", "opened-blanks"),
+    "an additional remake": ("INSERT INTO remake VALUES (1, 0, 2)", "remakes"),
 }
 
 
@@ -200,7 +205,7 @@ def sound_cases(folder: pathlib.Path, count: int, seed: str) -> Iterator[Case]:
 
 
 def killed_cases(persod: str, folder: pathlib.Path) -> Iterator[Case]:
-    """A server's file and its WAL, which it had no time to copy."""
+    """Yields the runs on the file of a killed server, whose WAL wasn't copied into the file."""
     make_cards(persod, path := folder / "killed.db")
     copied(path, twin := folder / "killed-twin.db")
     for words, wanted in runs(twin, 3, None):
@@ -256,7 +261,7 @@ def main() -> None:
                 beside_wal += "-wal" in files_of(path)
                 found = difference(words_of.program, path, words, wanted, is_json)
                 if found is None and path.exists() != was_there:
-                    found = "a file was made"
+                    found = "a file was created"
                 if found is not None:
                     wrong += 1
                     print(f"{name}, {' '.join(words)}{' --json' if is_json else ''}: {found}")

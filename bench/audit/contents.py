@@ -1,7 +1,8 @@
-"""Sound contents, and the rows that they are in the tables of docs/TABLES.md.
+"""Provides sound contents, and their rows in the tables of docs/TABLES.md.
 
-`Contents` has facts alone; `rows` gives what follows from them. `WORKED` is what the worked exchange of a spoiled and a remade card leaves, and
-its rows stand here a second time, by hand. `RICH` has a session, a record, a blank and a batch in every state.
+`Contents` has only facts, kept replies and marks; `rows` derives the tables from them. `WORKED` is the result of a worked exchange with a
+spoiled and a remade card. Its rows are also written by hand, in `WORKED_ROWS`. `RICH` has a session, a record, a blank and a batch in every
+state.
 """
 from collections import Counter, defaultdict
 from typing import Any, NamedTuple
@@ -51,7 +52,7 @@ class Contents(NamedTuple):
 
 
 def state_of(session: Session, commands: Commands) -> tuple[int, tuple[int, int, int, int]]:
-    """How a session stands, and where its card does."""
+    """Returns the state of a session, and the cursor of its card."""
     stops = bool(session.words) and not commands.goes(len(session.words) - 1, session.words[-1])
     cursor = commands.cursor(len(session.words) - stops)
     if stops or session.ended:
@@ -70,7 +71,7 @@ def record_state(states: list[int], is_withdrawn: bool, remakes: int) -> int:
 
 
 def by_card(sessions: list[Session]) -> dict[tuple[str, str], list[Session]]:
-    """The sessions of each record, by its batch and name."""
+    """Returns the sessions of each record, by the names of its batch and the record."""
     made: dict[tuple[str, str], list[Session]] = defaultdict(list)
     for session in sessions:
         made[session.batch, session.record].append(session)
@@ -79,7 +80,7 @@ def by_card(sessions: list[Session]) -> dict[tuple[str, str], list[Session]]:
 
 def batch_rows(its: Contents, name: str, number: int, made: Rows, commands: dict[tuple[str, str], Commands],
                sessions: dict[tuple[str, str], list[Session]]) -> None:
-    """The rows of `record` and `grouping2` of a batch, and the commands of its records."""
+    """Adds the rows of `record`, `grouping2` and `remake` of a batch to `made`, and the commands of its records to `commands`."""
     product, raw = its.batches[name]
     rows = rows_of(raw, its.products[product])
     assert rows is not None, name
@@ -123,7 +124,7 @@ def rows(its: Contents) -> Rows:
     return made
 
 
-# The worked exchange of a spoiled card, its remake, a good card, and a remake that is refused.
+# The worked exchange: a spoiled card, its remake, a good card, and a remake that is refused.
 
 FILE = b"record,aid,rank,enc,tol,dgi\nR1,F00000000101,1,0,0,0101027000\n"
 FIRST, SECOND = "00A4040006F00000000101", "80E28000050101027000"
@@ -156,8 +157,8 @@ WORKED = Contents(
     [Session("m1", "B1", "R1", 1000, (0x9000, 0x6A80)), Session("m1", "B1", "R1", 1001, (0x9000, 0x9000))],
     [], Counter({("B1", "R1"): 1}), set(), set(), REPLIES, {})
 
-# Its rows, by hand: record state 4 is good, session states 2 and 1 spoiled and good. The spoiled card stands at its second command, the good
-# one at the end.
+# The rows of WORKED, by hand. Record state 4 is good. Session states 2 and 1 are spoiled and good. The cursor of the spoiled card is at its second
+# command, that of the good card at the end.
 WORKED_ROWS: Rows = {
     "version": [(1, 3)],
     "product": [("P1", 255, 0, 0)],
@@ -180,7 +181,8 @@ def file_of(*lines: str, end: str = "\n") -> bytes:
     return "".join(line + end for line in ("record,aid,rank,enc,tol,dgi", *lines)).encode()
 
 
-# R1 and R2 have two applications, the first of R1 with ranks out of order, a segment of three pieces and a tolerant one; their rows mix.
+# R1 and R2 have two applications. The first application of R1 has ranks out of order, a segment of three pieces, and a tolerant segment. The rows
+# of R1 and R2 are interleaved.
 CARDS = file_of(
     "R1,F00000000101,20,0,1,90010E000102030405060708090A0B0C0D",
     "R2,F00000000101,1,0,0,0101027000",
@@ -203,16 +205,17 @@ RICH = Contents(
     [Lot("L1", "P1", 1000, 12), Lot("L2", "P2", 1012, 6), Lot("L0", "P2", 0, 2), Lot("L9", "P1", LAST - 4, 5), Lot("L3", "P-3_a", 50, 1)],
     {"B1": ("P1", CARDS), "B2": ("P2", PLAIN), "B0": ("P2", FILE), "b2": ("P1", FILE), "B3": ("P2", MIXED)},
     [
-        # R1 is spoiled at its SELECT, remade, spoiled at its last command but one, remade, and then good with a tolerated word.
+        # R1 is spoiled at its SELECT, remade, spoiled at its last command, remade, and then good, with a tolerated status word.
         Session("m1", "B1", "R1", 1000, (0x6A88,)),
         Session("m1", "B1", "R1", 1001, (0x9000, 0x6101, 0x9000, 0x9000, 0x9000, 0x6A88, 0x9000, 0x6283)),
         Session("m2", "B1", "R1", LAST, (0x9000, 0x61FF, 0x9000, 0x9000, 0x9000, 0x6A88, 0x9000, 0x9000)),
-        # R2 runs in the midst, R3 ran and was given up with no word, R4 likewise and was remade, R5 is withdrawn after it failed.
+        # R2 is in the middle of its sequence. R3 was aborted before its first word. R4 was aborted after one word, and remade. R5 failed and was
+        # withdrawn.
         Session("m2", "B1", "R2", 1003, (0x9000, 0x9000)),
         Session("m3", "B1", "R3", 1004, (), True),
         Session("m3", "B1", "R4", 1005, (0x9000,), True),
         Session("m3", "B1", "R5", LAST - 4, (0x6F00,)),
-        # Another machine runs at the start. B2 is closed: one good and one withdrawn.
+        # Another machine is before its first command. B2 is closed, with one good and one withdrawn record.
         Session("m4", "B1", "R7", 1006, ()),
         Session("m1", "B2", "R1", 1012, (0x9000, 0x9000)),
         Session("m1", "B2", "R2", 1013, (0x9000, 0x6985)),
@@ -224,6 +227,6 @@ RICH = Contents(
      Reply("m2", 1, b"\0{}", 409, b'{"code":68,"refused":"not-failed"}')],
     {"office": 4, "m9": LAST, "m1": 10 ** 7})
 
-# What an earlier version has no place for is left out: groupings of the mixed mark, and then marks too.
+# Earlier schema versions lack some of this: version 2 has no mixed encryption, and version 1 no release marks either.
 FOR_VERSION = {3: RICH, 2: RICH._replace(batches={name: batch for name, batch in RICH.batches.items() if name != "B3"})}
 FOR_VERSION[1] = FOR_VERSION[2]._replace(marks={})

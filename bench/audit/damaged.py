@@ -1,11 +1,13 @@
 #!/usr/bin/env python3
-"""Makes files with one thing changed, each from a sound file, and the verdict that docs/TABLES.md has on them.
+"""Changes one thing in sound files, and checks that each changed file is accepted or refused as docs/TABLES.md says.
 
     bench/run damaged
 
-judges each by auditor.py and by `persod`; without a program, as in `python3 bench/audit/damaged.py`, by auditor.py alone. Each file is made four times: with our own tables and indices, with
-the tables in another order, and in versions 2 and 1, as far as these have what is changed. Where rows are damaged a sentence of auditor.py is
-named, which has to find something. The status is 1 where a verdict is another than wanted.
+Both auditor.py and `persod` judge the files. To use only auditor.py, run `python3 bench/audit/damaged.py` without a program.
+
+Each file is made four times: with the tables and indices of the server, with the tables in another order, and in schema versions 2 and 1 if they
+have what is changed. For each file with damaged rows, the rule of auditor.py that must find the damage is given. Exit status: 1 if a verdict is
+wrong.
 """
 import pathlib
 import sqlite3
@@ -20,11 +22,12 @@ from judging import Case, judge_all
 from sound_files import OURS, Shape, make
 
 LAST = 10 ** 18 - 1
-SHAPES = {"as ours": Shape(indices=OURS), "in another order": Shape(order="mixed"), "in version 2": Shape(2), "in version 1": Shape(1)}
+SHAPES = {"as the server makes it": Shape(indices=OURS), "in another order": Shape(order="mixed"), "in version 2": Shape(2), "in version 1": Shape(1)}
 
 
 class Change(NamedTuple):
-    """One change of a file, by SQL that has no care for references and checks; whether of the rich file; and the verdict that is wanted."""
+    """A change of a file by SQL, without checks of references and constraints; the expected verdict; the rule that must find it; and whether the
+    rich file is changed."""
 
     name: str
     sql: str
@@ -34,24 +37,24 @@ class Change(NamedTuple):
 
 
 def tables_changed() -> Iterator[Change]:
-    """What the tables are, and what SQLite itself finds in their rows: 81."""
+    """Yields changes of the tables, and of rows that SQLite's own checks find. The verdict is 81."""
     for name, sql in {
         "a table missing": "DROP TABLE remake",
         "the table of groupings missing": "DROP TABLE grouping2",
         "the table of marks missing": "DROP TABLE mark",
-        "a table more": "CREATE TABLE note (id INTEGER NOT NULL PRIMARY KEY) STRICT",
-        "a column more": "ALTER TABLE reply ADD COLUMN note TEXT NOT NULL DEFAULT ''",
+        "an additional table": "CREATE TABLE note (id INTEGER NOT NULL PRIMARY KEY) STRICT",
+        "an additional column": "ALTER TABLE reply ADD COLUMN note TEXT NOT NULL DEFAULT ''",
         "a column missing": "ALTER TABLE lot DROP COLUMN discarded",
         "a column renamed": "ALTER TABLE lot RENAME COLUMN amount TO count",
         "a table renamed": "ALTER TABLE word RENAME TO words",
-        "a table renamed to another case": "ALTER TABLE word RENAME TO w; ALTER TABLE w RENAME TO Word",
+        "a table renamed to different case": "ALTER TABLE word RENAME TO w; ALTER TABLE w RENAME TO Word",
         "no version": "DELETE FROM version",
         "version 4": "DROP TABLE version; CREATE TABLE version (id INTEGER NOT NULL PRIMARY KEY CHECK (id = 1),"
                      " number INTEGER NOT NULL CHECK (number = 4)) STRICT; INSERT INTO version VALUES (1, 4)",
-        "version 4 in a table of another": "UPDATE version SET number = 4",
+        "version 4 in a table of version 3": "UPDATE version SET number = 4",
         "a second version": "INSERT INTO version VALUES (2, 3)",
         "a table that isn't strict": "CREATE TABLE note (name TEXT NOT NULL PRIMARY KEY, upto INTEGER NOT NULL)",
-        "a further UNIQUE index": "CREATE UNIQUE INDEX one_client ON reply (client, number)",
+        "an additional UNIQUE index": "CREATE UNIQUE INDEX one_client ON reply (client, number)",
         "a view": "CREATE VIEW cards AS SELECT serial FROM session WHERE state = 1",
         "a trigger": "CREATE TRIGGER late AFTER INSERT ON word BEGIN DELETE FROM remake; END",
     }.items():
@@ -65,14 +68,14 @@ def tables_changed() -> Iterator[Change]:
     ]:
         yield Change(f"{table}.{column} is {value}", f"UPDATE {table} SET {column} = {value}", OTHER_TABLES, None, table == "mark")
     for name, sql in {
-        "a lot of no product": "UPDATE lot SET product = 'P9'",
-        "a batch of no product": "UPDATE batch SET product = 'P9'",
-        "a record of no batch": "INSERT INTO record VALUES (2, 0, 'R1', 0, 0, 0)",
-        "a grouping of no record": "UPDATE grouping2 SET place = 1",
-        "a session of no record": "UPDATE session SET place = 1 WHERE id = 2",
-        "a word of no session": "UPDATE word SET session = 3 WHERE session = 2",
-        "a blank of no lot": "UPDATE blank SET lot = 'L9' WHERE serial = 1000",
-        "a remake of no record": "UPDATE remake SET batch = 2",
+        "a lot without its product": "UPDATE lot SET product = 'P9'",
+        "a batch without its product": "UPDATE batch SET product = 'P9'",
+        "a record without its batch": "INSERT INTO record VALUES (2, 0, 'R1', 0, 0, 0)",
+        "a grouping without its record": "UPDATE grouping2 SET place = 1",
+        "a session without its record": "UPDATE session SET place = 1 WHERE id = 2",
+        "a word without its session": "UPDATE word SET session = 3 WHERE session = 2",
+        "a blank without its lot": "UPDATE blank SET lot = 'L9' WHERE serial = 1000",
+        "a remake without its record": "UPDATE remake SET batch = 2",
         "a product missing": "DELETE FROM product",
         "a lot missing": "DELETE FROM lot",
         "a batch missing": "DELETE FROM batch",
@@ -94,18 +97,18 @@ def names_and_numbers() -> Iterator[Change]:
         "a batch": "UPDATE batch SET name = 'B.1'",
         "a record": "UPDATE record SET name = 'R 1'",
     }.items():
-        yield Change(f"{name} has a name that is none", sql, DAMAGED, "names_are_in_range")
+        yield Change(f"{name} has an invalid name", sql, DAMAGED, "names_are_in_range")
     for name, sql in {
         "a lot from -1": "INSERT INTO lot VALUES ('L2', 'P1', -1, 1, 0)",
         "a lot to 10^18": f"INSERT INTO lot VALUES ('L2', 'P1', {LAST}, 2, 0)",
-        "a lot to the end of all numbers": f"INSERT INTO lot VALUES ('L2', 'P1', {2 ** 63 - 1}, 1000000, 0)",
+        "a lot up to 2^63 - 1 and beyond": f"INSERT INTO lot VALUES ('L2', 'P1', {2 ** 63 - 1}, 1000000, 0)",
         "a reply's number 0": "UPDATE reply SET number = 0 WHERE client = 'm1' AND number = 1",
         "a reply's number 10^18": f"UPDATE reply SET number = {LAST + 1} WHERE client = 'm1' AND number = 1",
     }.items():
         yield Change(f"{name} is out of range", sql, DAMAGED, "serials_and_numbers_are_in_range")
     for name, sql in {
         "an earlier end": "INSERT INTO lot VALUES ('L2', 'P1', 1002, 5, 0)",
-        "an earlier begin": "INSERT INTO lot VALUES ('L2', 'P1', 998, 3, 0)",
+        "an earlier start": "INSERT INTO lot VALUES ('L2', 'P1', 998, 3, 0)",
         "all of it": "INSERT INTO lot VALUES ('L2', 'P1', 0, 1000000, 0)",
     }.items():
         yield Change(f"overlapping lots: {name}", sql, DAMAGED, "lots_are_apart")
@@ -114,13 +117,13 @@ def names_and_numbers() -> Iterator[Change]:
 def files_changed() -> Iterator[Change]:
     header = file_of()
     for name, raw in {
-        "no bytes": b"", "a header alone": header, "another header": FILE.replace(b"rank", b"rang"),
+        "no bytes": b"", "only a header": header, "another header": FILE.replace(b"rank", b"rang"),
         "a bad rank": FILE.replace(b",1,0,0,", b",0,0,0,"), "a bad mark": FILE.replace(b",1,0,0,", b",1,3,0,"),
         "a bad name": FILE.replace(b"R1", b"R 1"), "a bad AID": FILE.replace(b"F00000000101", b"F0000000"),
         "a grouping cut short": FILE.replace(b"027000", b"0270"), "a row of five fields": FILE + b"R2,F00000000101,1,0,0\n",
-        "an identifier twice": FILE + FILE[len(header):],
-        "differing marks": FILE + b"R1,F00000000101,1,1,0,8000\n", "another record more": FILE + b"R2,F00000000101,1,0,0,0101027000\n",
-        "a row more": FILE + b"R1,F00000000101,1,0,0,0102027000\n", "another grouping": FILE.replace(b"0101027000", b"0102027000"),
+        "a repeated identifier": FILE + FILE[len(header):],
+        "differing marks": FILE + b"R1,F00000000101,1,1,0,8000\n", "an additional record": FILE + b"R2,F00000000101,1,0,0,0101027000\n",
+        "an additional row": FILE + b"R1,F00000000101,1,0,0,0102027000\n", "another grouping": FILE.replace(b"0101027000", b"0102027000"),
         "another AID": FILE.replace(b"F00000000101", b"F00000000102"), "another rank": FILE.replace(b",1,0,0,", b",2,0,0,"),
         "another mark": FILE.replace(b",1,0,0,", b",1,1,0,"), "the mixed mark": FILE.replace(b",1,0,0,", b",1,2,0,"),
         "another tolerance": FILE.replace(b",1,0,0,", b",1,0,1,"),
@@ -132,8 +135,8 @@ def files_changed() -> Iterator[Change]:
         yield Change(f"a grouping's {column} is {value}", f"UPDATE grouping2 SET {column} = {value}", DAMAGED, "files_give_their_rows")
     for name, sql in {
         "a grouping missing": "DELETE FROM grouping2",
-        "a grouping doubled": "INSERT INTO grouping2 SELECT batch, line + 1, place, aid, rank, enc, tol, coded FROM grouping2",
-        "a record more": "INSERT INTO record VALUES (1, 1, 'R2', 0, 0, 0)",
+        "a duplicated grouping": "INSERT INTO grouping2 SELECT batch, line + 1, place, aid, rank, enc, tol, coded FROM grouping2",
+        "an additional record": "INSERT INTO record VALUES (1, 1, 'R2', 0, 0, 0)",
         "a record's name": "UPDATE record SET name = 'r1'",
     }.items():
         yield Change(name, sql, DAMAGED, "files_give_their_rows")
@@ -148,11 +151,11 @@ def gaps() -> Iterator[Change]:
         ("ids of batches", "UPDATE batch SET id = 9 WHERE id = 4; UPDATE record SET batch = 9 WHERE batch = 4;"
          "UPDATE grouping2 SET batch = 9 WHERE batch = 4", True),
         ("ids of sessions", "UPDATE session SET id = 12 WHERE id = 11; UPDATE word SET session = 12 WHERE session = 11", True),
-        ("ids of sessions at the front", "UPDATE session SET id = 0 WHERE id = 1; UPDATE word SET session = 0 WHERE session = 1", False),
+        ("ids of sessions at the start", "UPDATE session SET id = 0 WHERE id = 1; UPDATE word SET session = 0 WHERE session = 1", False),
         ("places of words", "UPDATE word SET place = 2 WHERE session = 2 AND place = 1", False),
-        ("places of words at the front", "DELETE FROM word WHERE session = 2 AND place = 0", False),
+        ("places of words at the start", "DELETE FROM word WHERE session = 2 AND place = 0", False),
         ("turns of a remake", "UPDATE remake SET turn = 2", False),
-        ("turns of a remake at the front", "UPDATE remake SET turn = 0", False),
+        ("turns of a remake at the start", "UPDATE remake SET turn = 0", False),
         ("turns of two remakes", "UPDATE remake SET turn = 3 WHERE turn = 2", True),
     ]:
         yield Change(f"a gap in {name}", sql, DAMAGED, "numbers_have_no_gap", is_rich)
@@ -164,7 +167,7 @@ def blanks() -> Iterator[Change]:
     for name, sql, is_rich in [
         ("a blank row missing", "DELETE FROM blank WHERE serial = 1000", False),
         ("a session's blank is discarded", "UPDATE blank SET kind = 1 WHERE serial = 1000", False),
-        ("a blank of no session", "INSERT INTO blank VALUES (1002, 'L1', 0)", False),
+        ("an opened blank without a session", "INSERT INTO blank VALUES (1002, 'L1', 0)", False),
         ("a discarded blank is opened", "UPDATE blank SET kind = 0 WHERE serial = 1002", True),
         ("a session's serial", "UPDATE session SET serial = 1002 WHERE id = 1", False),
         ("a blank of another product", "UPDATE session SET serial = -1 WHERE id = 1; UPDATE session SET serial = 1000 WHERE id = 9;"
@@ -174,38 +177,38 @@ def blanks() -> Iterator[Change]:
     for name, sql in {
         "an opened blank": "UPDATE blank SET lot = 'L9' WHERE serial = 1000",
         "a discarded blank": "UPDATE blank SET lot = 'L3' WHERE serial = 1002",
-        "a discarded blank of no lot": "UPDATE blank SET serial = 2000 WHERE serial = 1002",
-        "a discarded blank behind its lot": "UPDATE blank SET serial = 1018 WHERE serial = 1017",
-        "a lot's begin": "UPDATE lot SET low_serial = 1001, amount = 11 WHERE name = 'L1'",
-        "a lot's end": "UPDATE lot SET amount = 5 WHERE name = 'L2'",
+        "a discarded blank outside all lots": "UPDATE blank SET serial = 2000 WHERE serial = 1002",
+        "a discarded blank after its lot": "UPDATE blank SET serial = 1018 WHERE serial = 1017",
+        "the start of a lot": "UPDATE lot SET low_serial = 1001, amount = 11 WHERE name = 'L1'",
+        "the end of a lot": "UPDATE lot SET amount = 5 WHERE name = 'L2'",
     }.items():
-        yield Change(f"{name} doesn't lie so", sql, DAMAGED, "blanks_lie_in_their_lots", True)
+        yield Change(f"{name} doesn't fit its lot", sql, DAMAGED, "blanks_lie_in_their_lots", True)
 
 
 def words() -> Iterator[Change]:
     for name, sql, is_rich in [
-        ("a word more than commands", "INSERT INTO word VALUES (2, 2, 36864)", False),
-        ("a word that stops in the midst", "UPDATE word SET sw = 27264 WHERE session = 2 AND place = 0", False),
-        ("a word more behind one that stops", "INSERT INTO word VALUES (1, 1, 36864)", True),
-        ("6A88 to a SELECT, and on", "UPDATE word SET sw = 27272 WHERE session = 3 AND place = 0", True),
-        ("6A88 to an enciphered piece, and on", "UPDATE word SET sw = 27272 WHERE session = 3 AND place = 1", True),
-        ("6A88 to a tolerant piece that isn't the last, and on", "UPDATE word SET sw = 27272 WHERE session = 3 AND place = 4", True),
+        ("more words than commands", "INSERT INTO word VALUES (2, 2, 36864)", False),
+        ("a word in the middle that stops", "UPDATE word SET sw = 27264 WHERE session = 2 AND place = 0", False),
+        ("an additional word after one that stops", "INSERT INTO word VALUES (1, 1, 36864)", True),
+        ("6A88 to a SELECT, and further words", "UPDATE word SET sw = 27272 WHERE session = 3 AND place = 0", True),
+        ("6A88 to an encrypted piece, and further words", "UPDATE word SET sw = 27272 WHERE session = 3 AND place = 1", True),
+        ("6A88 to a tolerant piece that isn't the last, and further words", "UPDATE word SET sw = 27272 WHERE session = 3 AND place = 4", True),
     ]:
         yield Change(name, sql, DAMAGED, "words_follow_the_sequence", is_rich)
     for name, sql, is_rich in [
         ("a word missing", "DELETE FROM word WHERE session = 1 AND place = 1", False),
         ("a good card's last word missing", "DELETE FROM word WHERE session = 2 AND place = 1", False),
-        ("a word more", "INSERT INTO word VALUES (4, 2, 36864)", True),
-        ("a last word that goes", "UPDATE word SET sw = 36864 WHERE session = 1 AND place = 1", False),
+        ("an additional word", "INSERT INTO word VALUES (4, 2, 36864)", True),
+        ("a last word that lets the session continue", "UPDATE word SET sw = 36864 WHERE session = 1 AND place = 1", False),
         ("a last word that stops", "UPDATE word SET sw = 27264 WHERE session = 2 AND place = 1", False),
         ("a running session's state is good", "UPDATE session SET state = 1 WHERE id = 4", True),
         ("a good session's state is running", "UPDATE session SET state = 0 WHERE id = 2", False),
         ("a spoiled session's state is running", "UPDATE session SET state = 0 WHERE id = 1", False),
         ("a spoiled session's state is good", "UPDATE session SET state = 1 WHERE id = 1", False),
         ("a good session is ended", "UPDATE session SET ended = 1 WHERE id = 2", False),
-        ("a session is no more ended", "UPDATE session SET ended = 0 WHERE id = 5", True),
-        ("one word fewer is counted", "UPDATE session SET words = words - 1 WHERE id = 1", False),
-        ("one word more is counted", "UPDATE session SET words = words + 1 WHERE id = 2", False),
+        ("an ended session isn't ended", "UPDATE session SET ended = 0 WHERE id = 5", True),
+        ("the number of words is one too low", "UPDATE session SET words = words - 1 WHERE id = 1", False),
+        ("the number of words is one too high", "UPDATE session SET words = words + 1 WHERE id = 2", False),
         ("the stopped word isn't counted", "UPDATE session SET words = 0 WHERE id = 1", True),
         ("the cursor is moved by a word that stops", "UPDATE session SET app = 1, block = 0 WHERE id = 1", False),
         *((f"the cursor's {column}", f"UPDATE session SET {column} = {column} + 1 WHERE id = {number}", is_rich)
@@ -223,12 +226,12 @@ def counters() -> Iterator[Change]:
         "a running record waits": "UPDATE record SET state = 0 WHERE batch = 1 AND place = 1",
         "a running record is withdrawn": "UPDATE record SET state = 3 WHERE batch = 1 AND place = 1",
         "a record without a session is good": "UPDATE record SET state = 4 WHERE batch = 4",
-        "a spoiled session more is counted": "UPDATE record SET spoiled = spoiled + 1 WHERE batch = 1 AND place = 0",
-        "a spoiled session fewer is counted": "UPDATE record SET spoiled = spoiled - 1 WHERE batch = 1 AND place = 0",
-        "a remake more is counted": "UPDATE record SET remakes = remakes + 1 WHERE batch = 1 AND place = 2",
-        "a remake fewer is counted": "UPDATE record SET remakes = remakes - 1 WHERE batch = 1 AND place = 0",
+        "the number of spoiled sessions is one too high": "UPDATE record SET spoiled = spoiled + 1 WHERE batch = 1 AND place = 0",
+        "the number of spoiled sessions is one too low": "UPDATE record SET spoiled = spoiled - 1 WHERE batch = 1 AND place = 0",
+        "the number of remakes is one too high": "UPDATE record SET remakes = remakes + 1 WHERE batch = 1 AND place = 2",
+        "the number of remakes is one too low": "UPDATE record SET remakes = remakes - 1 WHERE batch = 1 AND place = 0",
         "a remake missing": "DELETE FROM remake WHERE turn = 2",
-        "a remake doubled": "INSERT INTO remake VALUES (1, 2, 1)",
+        "a duplicated remake": "INSERT INTO remake VALUES (1, 2, 1)",
     }.items():
         yield Change(name, sql, DAMAGED, "records_stand_so", True)
     for column in ("waiting", "running", "failed", "withdrawn", "good", "sessions", "spoiled"):
@@ -240,18 +243,18 @@ def counters() -> Iterator[Change]:
         "a withdrawn record waits": "UPDATE record SET state = 0 WHERE batch = 1 AND place = 5",
         "a withdrawn record is failed": "UPDATE record SET state = 2 WHERE batch = 1 AND place = 4",
     }.items():
-        yield Change(f"{name}, and is counted as it was", sql, DAMAGED, "batches_are_counted", True)
+        yield Change(f"{name}, and the counters are unchanged", sql, DAMAGED, "batches_are_counted", True)
     for name, sql in {
-        "a discarded blank more": "UPDATE lot SET discarded = discarded + 1 WHERE name = 'L9'",
-        "a discarded blank fewer": "UPDATE lot SET discarded = discarded - 1 WHERE name = 'L1'",
-        "a discarded blank's row missing": "DELETE FROM blank WHERE serial = 1002",
-        "a discarded blank's row more": "INSERT INTO blank VALUES (1010, 'L1', 1)",
+        "the number of discarded blanks is one too high": "UPDATE lot SET discarded = discarded + 1 WHERE name = 'L9'",
+        "the number of discarded blanks is one too low": "UPDATE lot SET discarded = discarded - 1 WHERE name = 'L1'",
+        "the row of a discarded blank missing": "DELETE FROM blank WHERE serial = 1002",
+        "an additional row of a discarded blank": "INSERT INTO blank VALUES (1010, 'L1', 1)",
     }.items():
         yield Change(name, sql, DAMAGED, "lots_are_counted", True)
 
 
 def rules() -> Iterator[Change]:
-    """What breaks one rule between rows, with all that is derived from it set as it would be."""
+    """Yields changes that break one rule between rows. All derived values are set accordingly."""
     for name, sentence, sql, is_rich in [
         ("a withdrawn record with a good card", "withdrawn_records_have_no_card",
          "UPDATE record SET state = 3; UPDATE batch SET good = 0, withdrawn = 1", False),
@@ -265,7 +268,7 @@ def rules() -> Iterator[Change]:
         ("a good and a running card of a record", "records_have_one_card",
          "DELETE FROM word WHERE session = 1 AND place = 1; UPDATE session SET state = 0, words = 1 WHERE id = 1; DELETE FROM remake;"
          "UPDATE record SET spoiled = 0, remakes = 0; UPDATE batch SET spoiled = 0", False),
-        ("a good card that no remake allowed", "records_are_remade_in_turn", "DELETE FROM remake; UPDATE record SET remakes = 0", False),
+        ("a good card without a remake", "records_are_remade_in_turn", "DELETE FROM remake; UPDATE record SET remakes = 0", False),
         ("a remake of a good card", "records_are_remade_in_turn", "INSERT INTO remake VALUES (1, 0, 2); UPDATE record SET remakes = 2", False),
         ("a remake of a card that wasn't made", "records_are_remade_in_turn",
          "INSERT INTO remake VALUES (4, 0, 1); UPDATE record SET remakes = 1 WHERE batch = 4", True),
@@ -287,7 +290,7 @@ def rules() -> Iterator[Change]:
 
 
 def further_batches(count: int) -> str:
-    """So many more batches of the same file."""
+    """Returns SQL that adds `count` batches with the same file."""
     numbers = f"WITH RECURSIVE n(x) AS (VALUES (2) UNION ALL SELECT x + 1 FROM n WHERE x < {count + 1})"
     return (f"{numbers} INSERT INTO batch SELECT x, 'Q' || x, 'P1', x'{FILE.hex()}', 0, 1, 0, 0, 0, 0, 0, 0 FROM n;"
             f"{numbers} INSERT INTO record SELECT x, 0, 'R1', 0, 0, 0 FROM n;"
@@ -295,21 +298,21 @@ def further_batches(count: int) -> str:
 
 
 def sound_changes() -> Iterator[Change]:
-    """What leaves the rows those of sound contents, whether a server would ever come to them or not."""
+    """Yields changes that leave the rows sound, even if no server would produce them."""
     raw = "UPDATE batch SET raw = x'{}'"
     for name, sql, is_rich in [
         ("nothing", "SELECT 1", False), ("nothing of the rich file", "SELECT 1", True),
         ("a machine's name", "UPDATE session SET machine = 'another' WHERE id = 1", False),
         ("a batch's name", "UPDATE batch SET name = 'B' WHERE id = 1", False),
         ("a product's low", "UPDATE product SET low = 31", False),
-        ("a product's max, where no card has two pieces", "UPDATE product SET max = 16", False),
-        ("a product's check, which each file passes", "UPDATE product SET checked = 1", False),
+        ("a product's max, if no segment has two pieces", "UPDATE product SET max = 16", False),
+        ("a product's check, if its file passes", "UPDATE product SET checked = 1", False),
         ("a larger lot", "UPDATE lot SET amount = 1000000", False), ("a smaller lot", "UPDATE lot SET amount = 2", False),
-        ("a lot more", "INSERT INTO lot VALUES ('L2', 'P1', 1003, 1, 0)", False),
+        ("an additional lot", "INSERT INTO lot VALUES ('L2', 'P1', 1003, 1, 0)", False),
         ("a lot at the first serial", "INSERT INTO lot VALUES ('L2', 'P1', 0, 1000, 0)", False),
         ("a lot to the last serial", f"INSERT INTO lot VALUES ('L2', 'P1', {LAST}, 1, 0)", False),
-        ("a lot whose product is another", "UPDATE lot SET product = 'P1' WHERE name = 'L3'", True),
-        ("a product more", "INSERT INTO product VALUES ('P2', 16, 0, 0)", False),
+        ("a lot of another product", "UPDATE lot SET product = 'P1' WHERE name = 'L3'", True),
+        ("an additional product", "INSERT INTO product VALUES ('P2', 16, 0, 0)", False),
         ("256 products", "WITH RECURSIVE n(x) AS (VALUES (1) UNION ALL SELECT x + 1 FROM n WHERE x < 255)"
          "INSERT INTO product SELECT 'Q' || x, 16, 0, 0 FROM n", False),
         ("4,096 lots", "WITH RECURSIVE n(x) AS (VALUES (1) UNION ALL SELECT x + 1 FROM n WHERE x < 4095)"
@@ -318,22 +321,22 @@ def sound_changes() -> Iterator[Change]:
         ("a file with other line ends", raw.format(FILE.replace(b"\n", b"\r\n\r").hex()), False),
         ("a file with a byte order mark", raw.format((b"\xEF\xBB\xBF" + FILE).hex()), False),
         ("a file with quotes", raw.format(FILE.replace(b"R1", b'"R1"').hex()), False),
-        ("a file spelt in another way",
+        ("a file in another spelling",
          raw.format(FILE.replace(b"F00000000101,1", b"f00000000101,001").replace(b"01027000", b"01FF00027000").hex()), False),
-        ("another word that goes", "UPDATE word SET sw = 25087 WHERE session = 2", False),
+        ("another word that lets the session continue", "UPDATE word SET sw = 25087 WHERE session = 2", False),
         ("another word that stops", "UPDATE word SET sw = 0 WHERE session = 1 AND place = 1", False),
-        ("a stopped session is ended too", "UPDATE session SET ended = 1 WHERE id = 1", False),
+        ("a stopped session is also ended", "UPDATE session SET ended = 1 WHERE id = 1", False),
         ("a closed batch", "UPDATE batch SET closed = 1", False), ("an open batch", "UPDATE batch SET closed = 0", True),
-        ("a discarded blank more", "INSERT INTO blank VALUES (1002, 'L1', 1); UPDATE lot SET discarded = 1", False),
+        ("an additional discarded blank", "INSERT INTO blank VALUES (1002, 'L1', 1); UPDATE lot SET discarded = 1", False),
         ("another discarded blank", "UPDATE blank SET serial = 1010 WHERE serial = 1002", True),
         ("a withdrawn record waits", "UPDATE record SET state = 0 WHERE batch = 1 AND place = 5;"
          "UPDATE batch SET withdrawn = withdrawn - 1, waiting = waiting + 1 WHERE id = 1", True),
         ("a good session of a record with a spoiled one is ended", "UPDATE session SET ended = 1, state = 2 WHERE id = 2;"
          "UPDATE record SET state = 2, spoiled = 2; UPDATE batch SET good = 0, failed = 1, spoiled = 2", False),
-        ("a reply's ask", "UPDATE reply SET ask = x'00FF' WHERE number = 6", False), ("a reply's body", "UPDATE reply SET body = x''", False),
+        ("a reply's request bytes", "UPDATE reply SET ask = x'00FF' WHERE number = 6", False), ("a reply's body", "UPDATE reply SET body = x''", False),
         ("a reply's number", f"UPDATE reply SET number = {LAST} WHERE number = 6", False), ("no replies", "DELETE FROM reply", False),
         ("a reply's status", "UPDATE reply SET status = 409", False),
-        ("a mark more", f"INSERT INTO mark VALUES ('m9', {LAST})", False), ("a lower mark", "UPDATE mark SET upto = 1", True),
+        ("an additional mark", f"INSERT INTO mark VALUES ('m9', {LAST})", False), ("a lower mark", "UPDATE mark SET upto = 1", True),
         ("a mark below all its client's replies",
          "INSERT INTO mark VALUES ('office', 1); DELETE FROM reply WHERE client = 'office' AND number = 1", False),
     ]:
@@ -345,7 +348,7 @@ def all_changes() -> list[Change]:
 
 
 def make_changed(path: pathlib.Path, its: Change, shape: Shape) -> bool:
-    """Makes the file, if its version has what is changed."""
+    """Makes the file and changes it. Returns False if its version lacks what is changed."""
     sql = its.sql if shape.version == 3 else its.sql.replace("grouping2", "grouping")
     if shape.version == 1 and ("mark " in sql or "TABLE mark" in sql):
         return False
@@ -372,7 +375,7 @@ def main() -> None:
     changes = all_changes()
     unbroken = {sentence.__name__ for sentence in auditor.AUDIT} - {its.sentence for its in changes}
     if unbroken:
-        sys.exit(f"no file breaks {', '.join(sorted(unbroken))}")
+        sys.exit(f"no changed file breaks {', '.join(sorted(unbroken))}")
     with tempfile.TemporaryDirectory() as folder:
         is_right = judge_all("damaged files", list(cases(pathlib.Path(folder))), program)
     sys.exit(not is_right)

@@ -1,4 +1,4 @@
-"""Sound contents drawn by a seed: a shop whose office and machines do something at random, and each thing only where it may be done."""
+"""Draws sound contents by a seed. The office and the machines of a shop do random things that are allowed at that moment."""
 import random
 from collections import Counter, defaultdict
 
@@ -14,7 +14,7 @@ Card = tuple[str, str]
 
 
 class Shop:
-    """What a shop holds while it works."""
+    """The state of a shop."""
 
     def __init__(self, draw: random.Random, most_marks: int) -> None:
         self.draw = draw
@@ -63,7 +63,7 @@ class Shop:
         return record_state(self.states(card), card in self.withdrawn, self.remakes[card])
 
     def open_cards(self, *states: int) -> list[Card]:
-        """The cards of open batches that stand so."""
+        """Returns the records of open batches that are in one of `states`."""
         return [card for card in self.commands if card[0] not in self.closed and self.state(card) in states]
 
     def running(self) -> list[int]:
@@ -119,7 +119,7 @@ class Shop:
 
 
 def replies_of(draw: random.Random, marks: dict[str, int]) -> list[Reply]:
-    """Kept replies, above the marks of their clients."""
+    """Returns kept replies above the release marks of their clients."""
     numbers = set()
     for _ in range(draw.randint(0, 12)):
         client = draw.choice((*marks, "m1", "m2", "M1", "m8", "office"))
@@ -131,7 +131,7 @@ def replies_of(draw: random.Random, marks: dict[str, int]) -> list[Reply]:
 
 
 def drawn(draw: random.Random, version: int) -> Contents:
-    """Contents that a file of this version may have."""
+    """Returns contents that a file of schema version `version` can have."""
     shop = Shop(draw, 2 if version == 3 else 1)
     for _ in range(draw.choice((0, 40, 150))):
         shop.step()

@@ -1,8 +1,10 @@
 #!/usr/bin/env python3
-"""Imports files of 1 to 70 rows whose names are drawn, and compares the rows of `record` and `grouping2` with the file, by plain SQL. An import
-adds sixteen rows by one statement, so each number of rows and of new names among sixteen comes up.
+"""Imports files of 1 to 70 rows, and compares the rows of `record` and `grouping2` with each file.
 
     bench/run imports [--seed S]
+
+The names in the files are random, and the comparison uses plain SQL. An import adds sixteen rows in one statement. The files therefore have
+every number of rows and of new names modulo sixteen. Exit status: 1 if a row is wrong.
 """
 import argparse
 import pathlib
@@ -16,12 +18,12 @@ from served import Server, exchange, free_port, imported, parts, request
 MOST_ROWS = 70
 HEADER = "record,aid,rank,enc,tol,dgi"
 AID = "F00000000101"
-# A row: its record's name, its rank, and its grouping.
+# A row: the name of its record, its rank, and its grouping.
 Row = tuple[str, int, bytes]
 
 
 def drawn(draw: random.Random, rows: int) -> list[Row]:
-    """Rows of records in any order. The more a file gives to new names, the fewer rows a record has."""
+    """Returns rows whose records are in random order. The more rows begin a new record, the fewer rows each record has."""
     new, found, made = draw.choice((0.05, 0.3, 0.7, 0.95, 1)), list[str](), list[Row]()
     for row in range(rows):
         if not found or draw.random() < new:
@@ -52,7 +54,7 @@ def wanted(rows: list[Row]) -> tuple[list, list]:
 def accepted(port: int, message: bytes) -> None:
     reply = parts(exchange(port, message))
     if not reply or reply[0] != 200:
-        sys.exit(f"{message[:200]!r} is answered {reply}")
+        sys.exit(f"{message[:200]!r} got the reply {reply}")
 
 
 def serve(persod: str, database: pathlib.Path, files: list[list[Row]]) -> None:
@@ -76,9 +78,9 @@ def main() -> None:
         conn = sqlite3.connect(database)
         for batch, rows in enumerate(files, 1):
             if stored(conn, batch) != wanted(rows):
-                sys.exit(f"seed {given.seed}, {len(rows)} rows: the tables have {stored(conn, batch)}, and not {wanted(rows)}")
+                sys.exit(f"seed {given.seed}, {len(rows)} rows: the tables have {stored(conn, batch)}, expected {wanted(rows)}")
         conn.close()
-    print(f"{MOST_ROWS} files, each with the rows and records that it says")
+    print(f"{MOST_ROWS} files: the tables have the rows and records of each")
 
 
 main()

@@ -1,4 +1,4 @@
-"""Verdicts on a file: that of auditor.py, and that of the program, which is `persod report --db FILE --batch NAME` on a copy."""
+"""Compares verdicts on a file: that of auditor.py, and that of `persod report --db FILE --batch NAME` on a copy."""
 import concurrent.futures
 import pathlib
 import shutil
@@ -12,13 +12,13 @@ from auditor import DAMAGED, OTHER_TABLES, TAKEN, verdict
 from schema import version_of
 
 BATCH = "B1"
-# A file may have lost the batch that is asked for: then it was taken, and the report is refused.
+# If a change removed the batch, the file is accepted, and the report is refused.
 BATCH_UNKNOWN = "56"
 SECONDS = 120
 
 
 class Case(NamedTuple):
-    """A file, the verdict that is wanted, and, where it matters, a sentence of auditor.py that it has to break."""
+    """A file, the expected verdict, and sometimes a rule of auditor.py that the file must break."""
 
     name: str
     path: pathlib.Path
@@ -27,7 +27,8 @@ class Case(NamedTuple):
 
 
 def held(path: pathlib.Path) -> Any:
-    """What a file holds: the rows of our tables whatever their version and order, or else the text that makes the file again, or its bytes."""
+    """Returns the contents of a file: the rows if it has the tables of any schema version; otherwise the SQL that makes the file again; or its
+    bytes."""
     if not path.exists():
         return None
     conn = sqlite3.connect(path)
@@ -54,7 +55,7 @@ def version_in(path: pathlib.Path) -> int | None:
 
 
 def report(program: str, path: pathlib.Path) -> str:
-    """The program's verdict on a file that it may change: `taken`, the number of a refusal, or what came in its place."""
+    """Returns the program's verdict on a file, which it may change: `taken`, the number of a refusal, or a description of anything else."""
     run = subprocess.run([program, "report", "--db", str(path), "--batch", BATCH], capture_output=True, timeout=SECONDS)
     printed = run.stderr.decode(errors="replace")
     refused = printed.removeprefix("refused ").removesuffix("\n")
@@ -66,42 +67,42 @@ def report(program: str, path: pathlib.Path) -> str:
 
 
 def by_program(program: str, path: pathlib.Path) -> str:
-    """The program's verdict, and whether the copy holds afterwards what it held before, in our own tables where it was taken."""
+    """Returns the program's verdict. It also checks that the copy has the same contents afterwards, and the current tables if it was accepted."""
     with tempfile.TemporaryDirectory() as folder:
         copy, same = pathlib.Path(folder) / "copy.db", pathlib.Path(folder) / "same.db"
         for end in ("", "-wal"):
             if (its := path.with_name(path.name + end)).exists():
                 shutil.copyfile(its, copy.with_name(copy.name + end))
-                # SQLite's library copies and deletes the WAL of what it reads.
+                # The SQLite library copies and deletes the WAL of a database that it reads.
                 shutil.copyfile(its, same.with_name(same.name + end))
         before = held(same)
         answer = report(program, copy)
         if held(copy) != before:
-            return f"{answer}, but the file holds something else"
+            return f"{answer}, but the contents of the file changed"
         if answer == TAKEN and (again := verdict(copy)).result != TAKEN:
-            return f"{answer}, and left as {again.result} {again.why}"
+            return f"{answer}, but afterwards auditor.py says {again.result} {again.why}"
         if answer == TAKEN and version_in(copy) != 3:
-            return f"{answer}, and left in an earlier version"
+            return f"{answer}, but left in an earlier schema version"
     return answer
 
 
 def difference(case: Case, program: str | None) -> str | None:
-    """How the verdicts on a file are other than wanted, if they are."""
+    """Returns how the verdicts on a file differ from the expected one, or None."""
     found = verdict(case.path)
     if found.result != case.wanted:
-        return f"{case.wanted} is wanted, and auditor.py says {found.result} {found.why}"
+        return f"expected {case.wanted}, but auditor.py says {found.result} {found.why}"
     if case.sentence and case.sentence not in found.sentences:
-        return f"{case.sentence} is to find something, and it is {', '.join(found.sentences)} that does"
+        return f"expected a finding of {case.sentence}, but only {', '.join(found.sentences)} found something"
     answer = by_program(program, case.path) if program else found.result
-    return f"{case.wanted} is wanted, and the program says {answer}" if answer != case.wanted else None
+    return f"expected {case.wanted}, but the program says {answer}" if answer != case.wanted else None
 
 
 def judge_all(what: str, cases: list[Case], program: str | None) -> bool:
-    """Prints what differs, and how many there are of each verdict; answers whether nothing differs."""
+    """Prints the differences and the number of files by verdict. Returns whether there was no difference."""
     with concurrent.futures.ThreadPoolExecutor() as pool:
         found = {case.name: why for case, why in zip(cases, pool.map(lambda case: difference(case, program), cases)) if why}
     for name, why in found.items():
         print(f"{name}: {why}")
     counts = ", ".join(f"{count} {wanted}" for wanted, count in Counter(case.wanted for case in cases).most_common())
-    print(f"{what}: {len(cases)} files ({counts}), {len(found)} of them with another verdict" + ("" if program else "; no program was asked"))
+    print(f"{what}: {len(cases)} files ({counts}), {len(found)} of them with a wrong verdict" + ("" if program else "; only auditor.py judged them"))
     return not found

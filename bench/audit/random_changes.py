@@ -1,12 +1,14 @@
 #!/usr/bin/env python3
-"""Changes one thing of a sound file at random, by a seed, and has auditor.py and the program judge each.
+"""Makes one random change in each of many sound files, and compares the verdicts of auditor.py and `persod`.
 
     bench/run random_changes [--cases N] [--seed TEXT] [--keep FOLDER]
 
-A change is a cell with a near or a far value of its type, a row taken away, a row doubled under another key, or two cells swapped; SQLite tests
-neither checks nor references then. A change that leaves the rows, or that a key forbids, is drawn again. The files are those of contents.py, with
-our own tables and indices; one in eight stands in another order or an earlier version. Where the verdicts differ the file is kept in FOLDER.
-Without a program the verdicts of auditor.py are counted. The status is 1 where any differs.
+A change replaces a cell by a near or a far value of its type, deletes a row, duplicates a row under another key, or swaps two cells. SQLite
+checks neither constraints nor references meanwhile. A change that has no effect, or that a key forbids, is drawn again.
+
+The files are those of contents.py, with the tables and indices of the server. One in eight has the tables in another order or of an earlier
+schema version. If the verdicts on a file differ, it is kept in FOLDER. Without a program, the script counts the verdicts of auditor.py. Exit
+status: 1 if any verdicts differ.
 """
 import argparse
 import concurrent.futures
@@ -44,7 +46,7 @@ class Cell(NamedTuple):
 
 @functools.cache
 def sound(is_rich: bool, shape: Shape) -> bytes:
-    """The bytes of a sound file."""
+    """Returns the bytes of a sound file."""
     with tempfile.TemporaryDirectory() as folder:
         path = pathlib.Path(folder) / "sound.db"
         make(path, rows(FOR_VERSION[shape.version]) if is_rich else WORKED_ROWS, shape)
@@ -52,7 +54,7 @@ def sound(is_rich: bool, shape: Shape) -> bytes:
 
 
 def some_cell(draw: random.Random, conn: sqlite3.Connection, tables: list[Table], kind: str | None = None) -> Cell | None:
-    """A cell of any table, each column as often as any other."""
+    """Returns a random cell. Each column has the same probability."""
     table, (column, its) = draw.choice([(table.name, column) for table in tables for column in table.columns if kind in (None, column[1])])
     rowids = rowids_of(conn, table)
     return Cell(table, column, its, draw.choice(rowids)) if rowids else None
@@ -71,7 +73,7 @@ def put(conn: sqlite3.Connection, cell: Cell, value: Any) -> None:
 
 
 def another(draw: random.Random, conn: sqlite3.Connection, cell: Cell, value: Any) -> Any:
-    """A near value, a far one, or one of another row of the same column."""
+    """Returns a near value, a far value, or a value of another row in the same column."""
     if draw.random() < 0.25:
         return draw.choice(conn.execute(f"SELECT {cell.column} FROM {cell.table}").fetchall())[0]
     is_near = draw.random() < 0.6
@@ -85,7 +87,7 @@ def another(draw: random.Random, conn: sqlite3.Connection, cell: Cell, value: An
 
 
 def changed_bytes(draw: random.Random, value: bytes) -> bytes:
-    """The bytes with one of them changed, put in or taken out."""
+    """Returns `value` with one byte changed, inserted or removed."""
     at = draw.randrange(len(value) + 1)
     kept = at + draw.randrange(2)
     bit = bytes([value[at] ^ 1 << draw.randrange(8)]) if at < len(value) else b""
@@ -93,7 +95,7 @@ def changed_bytes(draw: random.Random, value: bytes) -> bytes:
 
 
 def double(draw: random.Random, conn: sqlite3.Connection, tables: list[Table]) -> None:
-    """A row once more, with another value in one column of each key."""
+    """Duplicates a row, with another value in one column of each key."""
     table = draw.choice(tables)
     columns = [column for column, _ in table.columns]
     found = conn.execute(f"SELECT rowid, * FROM {table.name}").fetchall()
@@ -107,7 +109,7 @@ def double(draw: random.Random, conn: sqlite3.Connection, tables: list[Table]) -
 
 
 def swap(draw: random.Random, conn: sqlite3.Connection, tables: list[Table]) -> None:
-    """Two cells of one type, mostly of one column or of one row."""
+    """Swaps two cells of the same type, mostly of the same column or row."""
     if (first := some_cell(draw, conn, tables)) is None:
         return
     its = next(table for table in tables if table.name == first.table)
@@ -120,7 +122,8 @@ def swap(draw: random.Random, conn: sqlite3.Connection, tables: list[Table]) -> 
     if (first.table, first.rowid) == (second.table, second.rowid):
         conn.execute(f"UPDATE {first.table} SET {first.column} = ?, {second.column} = ? WHERE rowid = ?", (*values[::-1], first.rowid))
         return
-    # In between a value that no row has, so that a key forbids the swapped cells alone. A whole number that is the key is the row's number too.
+    # The first cell gets a value that no row has in between, so that a key can forbid only the final values. An integer primary key is also the
+    # rowid.
     apart = {"INTEGER": -12345, "TEXT": "no row's", "BLOB": b"no row's"}[first.kind]
     put(conn, first, apart)
     put(conn, second, values[0])
@@ -142,7 +145,7 @@ def change(draw: random.Random, conn: sqlite3.Connection, tables: list[Table]) -
 
 
 def make_case(seed: str, number: int, path: pathlib.Path) -> str:
-    """Makes the changed file of this number; answers what kind of change it is."""
+    """Makes the changed file with this number, and returns the kind of the change."""
     draw = random.Random(f"{seed} {number}")
     shape = draw.choice(SHAPES)
     made = sound(draw.random() < 0.9, shape)
@@ -189,7 +192,7 @@ def main() -> None:
     words.add_argument("program", nargs="?", help="persod")
     words.add_argument("--cases", type=int, default=CASES)
     words.add_argument("--seed", default="audit")
-    words.add_argument("--keep", help="a folder for the files whose verdicts differ")
+    words.add_argument("--keep", help="folder for files with different verdicts")
     its = words.parse_args()
     counts: Counter = Counter()
     differing = 0
@@ -201,7 +204,7 @@ def main() -> None:
                 print(f"{found.number} ({found.kind}): auditor.py says {found.verdict} {found.why}, the program {found.program}")
     for kind in KINDS:
         print(f"{kind}: {', '.join(f'{counts[kind, verdict]} {verdict}' for verdict in ('taken', '81', '82'))}")
-    asked = "" if its.program else "; no program was asked"
+    asked = "" if its.program else "; only auditor.py judged them"
     print(f"random changes, seed {its.seed}: {its.cases} files, {differing} with different verdicts{asked}")
     sys.exit(differing > 0)
 

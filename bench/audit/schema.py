@@ -1,4 +1,4 @@
-"""The tables of each version, as docs/TABLES.md has them, and the tables that a database has, in the same terms."""
+"""Describes the tables of each schema version (docs/TABLES.md) and the tables of a database in the same terms."""
 import re
 import sqlite3
 from typing import NamedTuple
@@ -7,7 +7,7 @@ VERSIONS = (1, 2, 3)
 RANGE = re.compile(r"(\w+) between (\d+) and (\d+)")
 VALUE = re.compile(r"(\w+) = (\d+)")
 TOKEN = re.compile(r"""\s+|--[^\n]*|/\*.*?\*/|(?P<quoted>"[^"]*"|`[^`]*`|\[[^]]*])|(?P<text>'(?:[^']|'')*')|(?P<word>\w+)|(?P<sign>.)""", re.S)
-# What none of our tables has: further keys, orders and times of their tests.
+# Keywords that no table of the server uses, for further keys, orders, and times of checks.
 FOREIGN = {"autoincrement", "collate", "conflict", "deferrable"}
 
 
@@ -18,7 +18,7 @@ class Reference(NamedTuple):
 
 
 class Range(NamedTuple):
-    """The values that a check lets a column have."""
+    """The values that a CHECK allows for a column."""
 
     column: str
     least: int
@@ -26,7 +26,7 @@ class Range(NamedTuple):
 
 
 class Table(NamedTuple):
-    """All of it in order: columns with their types, the primary key, the keys that have an index (a whole number that is the key has none)."""
+    """A table: the columns with their types, the primary key, and the keys with an index, each in order. An integer primary key has no index."""
 
     name: str
     columns: tuple[tuple[str, str], ...]
@@ -52,7 +52,7 @@ def grouping(name: str, most: int) -> Table:
 
 
 def tables_of(version: int) -> list[Table]:
-    """In the order of the document, and for versions 1 and 2 in the places of what version 3 has for them."""
+    """Returns the tables in the order of TABLES.md. In versions 1 and 2, a table is at the place of its counterpart in version 3."""
     return [
         table("version", "I:id I:number", "id", id=(1, 1), number=(version, version)),
         table("product", "T:name I:max I:low I:checked", "name", max=(16, 255), low=(0, 31), checked=(0, 1)),
@@ -94,7 +94,7 @@ def names(columns: tuple[str, ...]) -> str:
 
 
 def text_of(its: Table) -> str:
-    """CREATE TABLE, each key, reference and check of one column at its column."""
+    """Returns a CREATE TABLE statement in which each key, reference and check of one column is part of the column."""
     further = [key for key in its.indexed if key != its.key]
     parts = []
     for column, kind in its.columns:
@@ -111,7 +111,8 @@ def text_of(its: Table) -> str:
 
 
 def other_text_of(its: Table) -> str:
-    """The same table spelt in another way: keys, references and checks stand behind the columns, and other white space and case."""
+    """Returns an equivalent CREATE TABLE statement in another form: keys, references and checks follow the columns, and white space and case
+    differ."""
     parts = [f'  "{column}" {kind.lower()} not null' for column, kind in its.columns]
     parts += [f"  primary key ({names(its.key)})"]
     parts += [f"  unique ({names(key)})" for key in its.indexed if key != its.key]
@@ -124,7 +125,7 @@ def other_text_of(its: Table) -> str:
 
 
 def tokens(text: str) -> list[str]:
-    """The words and signs of a text, names without quotes and all in small letters."""
+    """Returns the words and signs of an SQL text in lower case, with names unquoted."""
     made = []
     for found in TOKEN.finditer(text):
         if found["quoted"]:
@@ -135,7 +136,7 @@ def tokens(text: str) -> list[str]:
 
 
 def checks_of(words: list[str]) -> list[str]:
-    """What stands in the brackets behind each CHECK."""
+    """Returns the expression of each CHECK."""
     made = []
     for at, word in enumerate(words):
         if word == "check" and words[at + 1:at + 2] == ["("]:
@@ -148,7 +149,7 @@ def checks_of(words: list[str]) -> list[str]:
 
 
 def ranges_of(text: str) -> tuple[Range, ...] | None:
-    """The values that checks allow, if each check is of one of our forms."""
+    """Returns the ranges that the checks allow, or None if a check has another form."""
     made = []
     for check in checks_of(tokens(text)):
         found = RANGE.fullmatch(check) or VALUE.fullmatch(check)
@@ -169,7 +170,7 @@ def references_of(conn: sqlite3.Connection, name: str) -> tuple[Reference, ...] 
 
 
 def indexed_of(conn: sqlite3.Connection, name: str) -> tuple[tuple[str, ...], ...] | None:
-    """The keys that have an index, in the order in which they are declared; none where an index beside the table isn't a plain one."""
+    """Returns the keys with an index, in the order of their declaration, or None if an index made by CREATE INDEX isn't plain."""
     indices = conn.execute('SELECT name, "unique" OR partial, origin FROM pragma_index_list(?)', (name,)).fetchall()
     columns = {index: tuple(column for column, in conn.execute("SELECT name FROM pragma_index_info(?) ORDER BY seqno", (index,)))
                for index, *_ in indices}
@@ -180,7 +181,7 @@ def indexed_of(conn: sqlite3.Connection, name: str) -> tuple[tuple[str, ...], ..
 
 
 def found_table(conn: sqlite3.Connection, name: str, text: str) -> Table | None:
-    """A table of the database in our terms, if it can be one of ours."""
+    """Describes a table of the database, or returns None if it can't be a table of the server."""
     query = 'SELECT name, upper(type), "notnull", dflt_value, pk, hidden FROM pragma_table_xinfo(?) ORDER BY cid'
     columns = conn.execute(query, (name,)).fetchall()
     is_plain = all(not_null and default is None and not hidden for _, _, not_null, default, _, hidden in columns)
@@ -192,7 +193,7 @@ def found_table(conn: sqlite3.Connection, name: str, text: str) -> Table | None:
 
 
 def version_of(conn: sqlite3.Connection) -> int | None:
-    """The version whose tables these are, and no others; plain indices and the order of the tables say nothing."""
+    """Returns the schema version if the database has exactly its tables. Plain indices and the order of the tables don't matter."""
     if conn.execute("PRAGMA encoding").fetchone() != ("UTF-8",) or conn.execute("PRAGMA auto_vacuum").fetchone() != (0,):
         return None
     listed = conn.execute("SELECT name, type, wr, strict FROM pragma_table_list WHERE schema = 'main' AND name <> 'sqlite_schema'").fetchall()

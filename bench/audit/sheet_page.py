@@ -1,4 +1,4 @@
-"""The sheet of a batch as its reader sees it: what an HTML page shows, in lines, and what it is to show by plain SQL."""
+"""Returns the text of a batch sheet in lines: as an HTML page shows it, and as plain SQL predicts it."""
 import hashlib
 import html.parser
 import sqlite3
@@ -18,7 +18,7 @@ RECORDS = f"""SELECT record.name, record.state, (SELECT count(*) {ITS}), (SELECT
 
 
 class Page(html.parser.HTMLParser):
-    """What a page shows: its heads and paragraphs, the parts of its bar, and the rows of its tables, each row behind its class."""
+    """The lines that a page shows: its headings and paragraphs, the parts of its bar, and the rows of its tables, each after its class."""
 
     def __init__(self, text: str) -> None:
         super().__init__()
@@ -52,7 +52,7 @@ class Page(html.parser.HTMLParser):
 
 
 def page_lines(conn: sqlite3.Connection, batch: tuple, cards: list[tuple]) -> list[str]:
-    """What the sheet of a batch shows, by its line in `list` and its lines in `cards`."""
+    """Returns the expected lines of the sheet, from the line of the batch in `list` and its lines in `cards`."""
     _, name, product, state, *account = batch
     raw, = conn.execute("SELECT raw FROM batch WHERE name = ?", (name,)).fetchone()
     bar = [f"{part} flex:{number} 0 0" for part, number in zip(STATES, account[1:6])]
@@ -64,7 +64,7 @@ def page_lines(conn: sqlite3.Connection, batch: tuple, cards: list[tuple]) -> li
 
 
 def report(conn: sqlite3.Connection, batch: tuple) -> str:
-    """The close report of a batch, by its line in `list` and the rows of its records and sessions."""
+    """Returns the close report of a batch, from its line in `list` and the rows of its records and sessions."""
     _, name, product, state, *account = batch
     records = [f"record {record} {STATES[stands]} {sessions} {'-' if serial is None else serial}"
                for record, stands, sessions, serial in conn.execute(RECORDS, (name,))]

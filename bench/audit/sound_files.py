@@ -1,10 +1,13 @@
 #!/usr/bin/env python3
-"""Makes files by plain SQL: sound ones in each version and in several orders, after VACUUM and .dump, and some whose tables aren't ours.
+"""Makes sound database files by plain SQL, and some with foreign tables, and checks which ones are accepted.
 
     bench/run sound_files
 
-judges each by auditor.py and by `persod`; without a program, as in `python3 bench/audit/sound_files.py`, by auditor.py alone. A file that is taken has to hold what it held before, now in the
-tables of version 3, and one that is refused stays. The status is 1 where a verdict is another than wanted.
+The sound files have the tables of each schema version, in several orders, and after VACUUM and .dump. Both auditor.py and `persod` judge the
+files. To use only auditor.py, run `python3 bench/audit/sound_files.py` without a program.
+
+An accepted file must keep its contents, in the tables of version 3 afterwards. A refused file must not change. Exit status: 1 if a verdict is
+wrong.
 """
 import pathlib
 import random
@@ -22,8 +25,8 @@ from schema import INDICES, VERSIONS, Table, other_text_of, tables_of, text_of
 
 
 class Shape(NamedTuple):
-    """How a file is made: its version, the order and the spelling of its tables, gaps in their numbers, its indices, and a pragma before all. With a WAL, the
-    tables and the rows are two commits in the WAL next to the file, as a killed writer leaves them."""
+    """How a file is made: its schema version, the order and the form of its tables, whether the numbers of the tables have gaps, its indices, and a
+    pragma that runs first. With a WAL, the tables and the rows are two commits in the WAL, as a killed writer leaves them."""
 
     version: int = 3
     order: str = "document"
@@ -46,7 +49,7 @@ ORDERS: dict[str, Callable[[list[Table]], list[Table]]] = {
     "document": lambda tables: tables,
     "backward": lambda tables: tables[::-1],
     "mixed": mixed,
-    # As where tables of an earlier version were made anew behind the others.
+    # The order after an upgrade, which makes some tables again after the others.
     "renewed": lambda tables: sorted(tables, key=lambda it: it.name in ("version", "grouping", "grouping2", "mark")),
 }
 OURS = tuple(f"CREATE INDEX {name} ON {columns}" for name, columns in INDICES.items())
@@ -54,7 +57,7 @@ FURTHER = "CREATE INDEX by_serial ON blank (lot, serial)"
 
 
 def in_version(made: Rows, version: int) -> Rows:
-    """The rows as an earlier version has them; version 1 has no marks."""
+    """Returns the rows in an earlier schema version. Version 1 has no release marks."""
     its = dict(made, version=[(1, version)])
     if version < 3 and "grouping2" in its:
         its["grouping"] = its.pop("grouping2")
@@ -68,20 +71,20 @@ def fill(conn: sqlite3.Connection, made: Rows) -> None:
 
 
 def beside(path: pathlib.Path, end: str) -> pathlib.Path:
-    """The path with an ending: `-wal` for the WAL."""
+    """Returns the path with `end` appended, such as `-wal` for the WAL."""
     return path.with_name(path.name + end)
 
 
 def copied(path: pathlib.Path, to: pathlib.Path) -> None:
-    """Copies a file and the WAL or the journal next to it, if there is one."""
+    """Copies a database file, and its WAL or journal if it exists."""
     for end in ("", "-wal", "-journal"):
         if (its := beside(path, end)).exists():
             shutil.copyfile(its, beside(to, end))
 
 
 def make(path: pathlib.Path, made: Rows, shape: Shape = Shape(), *statements: str) -> None:
-    """Makes a file of these rows, and runs the statements. SQLite copies and deletes a WAL when its last connection is closed, so one that is to be left is
-    copied before that, with the file."""
+    """Makes a file of these rows, and executes the statements. SQLite copies and deletes the WAL when the last connection is closed. If the WAL
+    must remain, both files are therefore copied before that."""
     for end in ("", "-wal"):
         beside(path, end).unlink(missing_ok=True)
     written = beside(path, "-open") if shape.has_wal else path
@@ -121,7 +124,7 @@ def change(path: pathlib.Path, *statements: str) -> None:
 
 
 def dumped(path: pathlib.Path, to: pathlib.Path) -> None:
-    """A new file of the text that `.dump` gives."""
+    """Makes a new file from the output of `.dump`."""
     if shell := shutil.which("sqlite3"):
         text = subprocess.run([shell, str(path), ".dump"], check=True, capture_output=True).stdout.decode()
     else:
@@ -141,11 +144,11 @@ def shapes(version: int) -> dict[str, Shape]:
     ours = OURS if version == 3 else ()
     return {
         **{f"in the order {order}": Shape(version, order) for order in ORDERS},
-        "with our indices": Shape(version, indices=ours),
-        "with a further plain index": Shape(version, indices=(*ours, FURTHER)),
+        "with the server's indices": Shape(version, indices=ours),
+        "with an additional plain index": Shape(version, indices=(*ours, FURTHER)),
         "with gaps in the numbers of the tables": Shape(version, "mixed", has_gaps=True),
-        "with gaps and a further plain index": Shape(version, "backward", has_gaps=True, indices=(FURTHER,)),
-        "spelt in another way": Shape(version, text=other_text_of),
+        "with gaps and an additional plain index": Shape(version, "backward", has_gaps=True, indices=(FURTHER,)),
+        "in another spelling": Shape(version, text=other_text_of),
         "with a WAL": with_wal(version, ours),
         "in small pages": Shape(version, indices=ours, pragma="page_size = 512"),
         "in large pages": Shape(version, indices=ours, pragma="page_size = 65536"),
@@ -153,13 +156,13 @@ def shapes(version: int) -> dict[str, Shape]:
 
 
 OTHERS = {
-    "a further UNIQUE index": "CREATE UNIQUE INDEX one_sw ON word (session, place, sw)",
+    "an additional UNIQUE index": "CREATE UNIQUE INDEX one_sw ON word (session, place, sw)",
     "an index with a condition": "CREATE INDEX good ON session (serial) WHERE state = 1",
     "an index over an expression": "CREATE INDEX halves ON session (serial / 2)",
     "a view": "CREATE VIEW cards AS SELECT serial FROM session",
     "a trigger": "CREATE TRIGGER late AFTER INSERT ON word BEGIN DELETE FROM remake; END",
-    "a column more": "ALTER TABLE lot ADD COLUMN note TEXT NOT NULL DEFAULT ''",
-    "a table more": "CREATE TABLE note (id INTEGER NOT NULL PRIMARY KEY) STRICT",
+    "an additional column": "ALTER TABLE lot ADD COLUMN note TEXT NOT NULL DEFAULT ''",
+    "an additional table": "CREATE TABLE note (id INTEGER NOT NULL PRIMARY KEY) STRICT",
     "statistics": "ANALYZE",
 }
 

@@ -1,11 +1,10 @@
 #!/usr/bin/env python3
-"""Reads a file of ours by Python's sqlite3, which is C's SQLite: is it whole, and do its tables hold the rows that the documents say.
+"""Reads a server's database file with Python's sqlite3 (the SQLite library), and checks that it is intact and has the documented rows.
 
     bench/run tables_read
 
-The program of measure/programs/measure_tables.txt serves docs/PROTOCOL.md's set-up,
-a spoiled card, its remake, a second card that is good, and a remake that is refused. What the rows must be is written here by hand, from
-PROTOCOL.md and TABLES.md.
+The program of measure/programs/measure_tables.txt serves the set-up of docs/PROTOCOL.md, a spoiled card, its remake, a good card, and a remake
+that is refused. The expected rows are written by hand, from PROTOCOL.md and TABLES.md. Exit status: 1 if the file or a row is wrong.
 """
 import pathlib
 import sqlite3
@@ -18,7 +17,7 @@ from served import post
 MEASURE = sys.argv[1]
 FILE = "record,aid,rank,enc,tol,dgi\nR1,F00000000101,1,0,0,0101027000\n"
 
-# A client, its number, what stands behind that in the target, the body, and the status and the body of the reply.
+# Each exchange: the client, the request number, the end of the path, the body, and the status and the body of the reply.
 EXCHANGES = [
     ("office", 1, "", '{"do":"product","product":"P1","max":255,"low":0,"check":false}',
      200, '{"product":"P1","result":"created"}'),
@@ -44,7 +43,7 @@ EXCHANGES = [
      409, '{"code":68,"refused":"not-failed"}'),
 ]
 
-# Each query, and its rows. A reply is kept with its ask: the target's end, a byte 00 and the body.
+# Each query and its rows. A reply is kept with its request bytes: the end of the path, a byte 00, and the body.
 ROWS = {
     "SELECT id, number FROM version": [(1, 3)],
     "SELECT name, max, low, checked FROM product": [("P1", 255, 0, 0)],
@@ -55,10 +54,10 @@ ROWS = {
     "SELECT batch, place, name, state, spoiled, remakes FROM record": [(1, 0, "R1", 4, 1, 1)],
     "SELECT batch, line, place, aid, rank, enc, tol, coded FROM grouping2":
         [(1, 2, 0, bytes.fromhex("F00000000101"), 1, 0, 0, bytes.fromhex("0101027000"))],
-    # state 2 is spoiled, 1 good
+    # state 2 is spoiled, 1 is good
     "SELECT id, machine, batch, place, serial, state, ended, words FROM session ORDER BY id":
         [(1, "m1", 1, 0, 1000, 2, 0, 2), (2, "m1", 1, 0, 1001, 1, 0, 2)],
-    # at the command behind the words that go on: the piece in block 0, whose next is written as 1, and the end
+    # the command after the words that let the session continue: the piece in block 0 (the next block is stored, 1), and the end
     "SELECT app, segment, at_offset, block FROM session ORDER BY id": [(0, 0, 0, 1), (1, 0, 0, 0)],
     "SELECT session, place, sw FROM word ORDER BY session, place":
         [(1, 0, 0x9000), (1, 1, 0x6A80), (2, 0, 0x9000), (2, 1, 0x9000)],
@@ -69,7 +68,7 @@ ROWS = {
         sorted((client, number, f"{tail}\0{body}".encode(), status, reply.encode())
                for client, number, tail, body, status, reply in EXCHANGES),
     "SELECT client, upto FROM mark": [],
-    # the batch's account, and that of the blanks: total, good, spoiled, free
+    # the account of the batch, and that of the blanks: total, good, spoiled, free
     "SELECT count(*), sum(state = 0), sum(state = 1), sum(state = 2), sum(state = 3), sum(state = 4) FROM record": [(1, 0, 0, 0, 0, 1)],
     "SELECT count(*), sum(state = 0), sum(state = 1), sum(state = 2) FROM session": [(2, 0, 1, 1)],
     "SELECT (SELECT sum(amount) FROM lot) - (SELECT count(*) FROM blank)": [(1,)],
@@ -82,7 +81,7 @@ def write(database: pathlib.Path) -> None:
     accepted = sum(status == 200 for *_, status, _ in EXCHANGES)
     wanted = f"served {len(EXCHANGES)} accepted {accepted}"
     if not printed.startswith(wanted):
-        sys.exit(f"measure_tables: {printed.strip()!r}, and not {wanted!r}")
+        sys.exit(f"measure_tables printed {printed.strip()!r}, expected {wanted!r}")
 
 
 def check(database: pathlib.Path) -> int:
@@ -91,7 +90,7 @@ def check(database: pathlib.Path) -> int:
     for query, rows in wanted.items():
         found = conn.execute(query).fetchall()
         if found != rows:
-            sys.exit(f"{query}\n  gives {found}\n  and not {rows}")
+            sys.exit(f"{query}\n  returns  {found}\n  expected {rows}")
     tables = {name for name, in conn.execute("SELECT name FROM sqlite_master WHERE type = 'table'")}
     unread = {name for name in tables if not any(f"FROM {name}" in query for query in ROWS)}
     conn.close()
@@ -105,7 +104,7 @@ def main() -> None:
         database = pathlib.Path(name) / "served.db"
         write(database)
         tables = check(database)
-    print(f"sqlite3 {sqlite3.sqlite_version} finds the file whole, and in its {tables} tables the rows that the documents say")
+    print(f"sqlite3 {sqlite3.sqlite_version} finds the file intact, and the documented rows in its {tables} tables")
 
 
 if __name__ == "__main__":
