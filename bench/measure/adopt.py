@@ -1,17 +1,24 @@
 #!/usr/bin/env python3
-"""Measures what it takes to go on over a file: its open, in which the SQLite that we use looks at each row; what the audit adds, and the
-making anew where the tables aren't our own; and the close, which copies the log into the file. Beside them stand `PRAGMA integrity_check`
-and `PRAGMA foreign_key_check` by Python's sqlite3 on the same file in the same run. Linux alone.
+"""Measures how long it takes to open, audit, upgrade and close a database file, and how long SQLite's own checks take.
 
     bench/run adopt [FOLDER]
 
-It runs programs/measure_adopt.txt. The files lie in FOLDER, and are removed. The files are made by plain SQL, of sound contents in which all cards are good, or of one batch whose file is as long as it may
-be and of which no card was made yet: in our own tables, where they stay as they are, and in those of versions 1 and 2 in a mixed order, where
-they are made anew.
+Requires Linux. The script runs programs/measure_adopt.txt, which works in three steps:
 
-Both take turns, and what is printed is the median round: seconds of the processor, which other work on the machine moves least, and their
-ratios. Memory is the highest resident size so far, which is read while the program waits for its next step; so is the length of the log.
-In the end each file is in version 3 with the rows it had, which is tested.
+- open: the toolchain's crate `sqlite` reads each row
+- take: the audit, and the upgrade if the schema version is older
+- close: the WAL is copied into the file
+
+For comparison, Python's sqlite3 runs `PRAGMA integrity_check` and `PRAGMA foreign_key_check` on the same file.
+
+The files are made by plain SQL in FOLDER, and removed afterwards. Their contents are batches in which all cards are good, or one batch with a
+file of the maximum size and no cards. Each file is made in the current schema version, which the program leaves unchanged, and in versions 1 and
+2 with the tables in another order, which it upgrades.
+
+The program and sqlite3 take turns. The script prints the median round: processor seconds, which depend least on other work on the machine, and
+their ratios. Only the time of the close is wall-clock time. Memory is the peak resident size so far. It and the length of the WAL are read while
+the program waits for its next step. At the end the script checks that each file is in version 3 with its original rows. Exit status: 1 if a step
+fails or a file is wrong.
 """
 import pathlib
 import shutil
@@ -45,17 +52,17 @@ ASK = b'\0{"do":"answer","session":100000,"index":0,"sw":"9000"}'
 BODY = b'{"command":"80E28000050101027000","index":1,"result":"command","session":100000}'
 
 
-# ---- the files
+# ---- files
 
 
 class Size(NamedTuple):
-    """So many batches of so many cards, and so many kept replies for each card."""
+    """The number of batches with CARDS cards each, and the number of kept replies for each card."""
 
     batches: int
     replies: int
 
 
-SHAPES = {"our own tables": Shape(indices=OURS), "version 1, mixed": Shape(1, "mixed"), "version 2, mixed": Shape(2, "mixed")}
+SHAPES = {"current tables": Shape(indices=OURS), "version 1, mixed": Shape(1, "mixed"), "version 2, mixed": Shape(2, "mixed")}
 
 
 def holding(batches: dict[str, bytes], sessions: list[Session], replies: list[Reply]) -> Contents:
@@ -72,7 +79,7 @@ def all_good(size: Size) -> Contents:
 
 
 def long_file() -> Contents:
-    """A batch whose file is as long as it may be, filled up by empty lines."""
+    """Returns a batch whose file has the maximum size. Empty lines fill it up."""
     groupings = (coded(f"{0x9001 + row % 4:04X}", bytes([row % 256]) * 2_030) for row in range(ROWS))
     lines = [HEADER, *(f"R{row // 4},F00000000101,1,0,0,{grouping}" for row, grouping in enumerate(groupings)), ""]
     return holding({"B0": "\n".join(lines).encode().ljust(MOST_FILE, b"\n")}, [], [])
@@ -85,11 +92,11 @@ FILES: dict[str, Callable[[], Contents]] = {
 }
 
 
-# ---- ours
+# ---- the program
 
 
 class Step(NamedTuple):
-    """What a step of the program came to, its seconds, those of the processor, and the highest memory so far."""
+    """The result of a step: its word, its seconds, its processor seconds, and the peak memory so far."""
 
     word: str
     seconds: float
@@ -98,7 +105,7 @@ class Step(NamedTuple):
 
 
 class Ours:
-    """The program `measure_adopt` over a file. It waits before each step."""
+    """The program `measure_adopt` on a file. It waits before each step."""
 
     def __init__(self, database: pathlib.Path) -> None:
         self.program = subprocess.Popen([MEASURE, database], stdin=subprocess.PIPE, stdout=subprocess.PIPE)
@@ -117,7 +124,7 @@ class Ours:
         return Step(words[0], int(words[2]) / 1e6, self.processor() - before, high_water(self.program.pid))
 
     def last_step(self) -> str:
-        """The last one, behind which the program ends, so nothing is read of it but its line."""
+        """Runs the last step, and returns its line. The program exits after it, so nothing else can be read of it."""
         assert self.program.stdin and self.program.stdout
         self.program.stdin.write(b"\n")
         self.program.stdin.close()
@@ -128,7 +135,8 @@ class Ours:
 
 
 class Round(NamedTuple):
-    """What one round took: of the processor for the open, the taking and sqlite3's tests, the close by the clock; sizes in bytes."""
+    """The measurements of a round: processor seconds of the open, the take and sqlite3's checks, wall-clock seconds of the close, and sizes in
+    bytes."""
 
     opened: float
     taken: float
@@ -155,17 +163,17 @@ def ours(database: pathlib.Path) -> tuple[Step, Step, float, int]:
 
 
 def theirs(database: pathlib.Path) -> float:
-    """Seconds of the processor for sqlite3's own tests of a file."""
+    """Returns the processor seconds of sqlite3's own checks of a file."""
     conn = sqlite3.connect(database)
     start = time.process_time()
     if conn.execute("PRAGMA integrity_check").fetchall() != [("ok",)] or conn.execute("PRAGMA foreign_key_check").fetchall():
-        sys.exit(f"{database}: sqlite3 finds it damaged")
+        sys.exit(f"{database}: sqlite3 reports damage")
     took = time.process_time() - start
     conn.close()
     return took
 
 
-# ---- both, in turn
+# ---- rounds
 
 
 def one_round(database: pathlib.Path) -> Round:
@@ -177,11 +185,11 @@ def one_round(database: pathlib.Path) -> Round:
 
 
 def test_taken(database: pathlib.Path) -> None:
-    """The copy that the last round left holds what the file holds, in version 3."""
+    """Checks that the copy of the last round has the contents of the file, in version 3."""
     copy = database.with_suffix(".copy.db")
     conn = sqlite3.connect(copy)
     if version_of(conn) != 3 or held(copy) != held(database):
-        sys.exit(f"{copy} holds something else")
+        sys.exit(f"{copy} has other contents")
     conn.close()
     copy.unlink()
 

@@ -1,11 +1,11 @@
 #!/usr/bin/env python3
-"""Compares the speed of two builds of `persod serve` in one run.
+"""Compares the speed of two builds of `persod serve`, PERSOD and OTHER, in the same run.
 
     OTHER=/path/to/persod bench/run builds [--folder FOLDER] [--rounds N] [--cards N]
 
-1, 4 and 20 machines (c/machines.c) make cards, and each commit is synced to the disk of FOLDER. The builds take turns: 1,000 requests each in a round, and
-every second round begins with the other build. Prints for each number of machines the median rate of both builds, and the median, the lowest and the
-highest of the ratios in one round. OTHER is the build to compare with."""
+1, 4 and 20 machines (c/machines.c) make cards, and each commit is synced to the disk of FOLDER. The builds take turns with 1,000 requests each,
+and every second round begins with the other build. For each number of machines, the script prints the median rate of both builds, and the
+median, the lowest and the highest ratio of a round."""
 import argparse
 import pathlib
 import statistics
@@ -33,7 +33,7 @@ def compare(ours: Shop, other: Shop, rounds: int) -> None:
             rates.append((of_ours, of_other))
         ratios = [one / two for one, two in rates]
         medians = [statistics.median(side) for side in zip(*rates)]
-        print(f"{machines:2} machines: {medians[0]:,.0f} and {medians[1]:,.0f} requests a second; ratio {statistics.median(ratios):.2f}, "
+        print(f"{machines:2} machines: {medians[0]:,.0f} and {medians[1]:,.0f} requests per second; ratio {statistics.median(ratios):.2f}, "
               f"{min(ratios):.2f} to {max(ratios):.2f}", flush=True)
 
 

@@ -1,17 +1,20 @@
 #!/usr/bin/env python3
-"""Measures two calls alone: the speed of `tlv_check::is_record`, and the memory of `batch_import::check_batch`.
+"""Measures the speed of the EMV record check (`tlv_check::is_record`) and the memory of `batch_import::check_batch`.
 
     bench/run check
 
-It runs the program of crates/measure. Linux alone.
+Requires Linux. The script runs the program of crates/measure.
 
-Speed is bytes over the time of `measure records` less that of `measure raw`, which reads the same input and does no more;
-each is the best of several runs, and a difference below 1 ms counts as 1 ms.
+The speed is the number of bytes divided by the time of `measure records` minus the time of `measure raw`, which only reads the same input. Each
+time is the best of several runs, and a difference below 1 ms counts as 1 ms.
 
-Memory is that of `measure batch` less that of `measure raw` on the same batch, for each row. Resident is the highest
-resident size, the median of several runs; it is counted in pages of 4 KiB, and has the stack and the pages of the program.
-The next column is the same less what a batch of one row takes. Allocated is the most bytes that were had from `malloc` at
-once, as the C library's libmemusage counts them, or `-` where that library is missing.
+The memory is that of `measure batch` minus that of `measure raw` on the same batch, for each row:
+
+- resident: the median of the peak resident size over several runs, including the stack and the
+  pages of the program, in pages of 4 KiB
+- less one row: the same minus the value of a batch with one row
+- allocated: the peak of the bytes allocated by `malloc`, as the C library's libmemusage counts
+  them, or `-` if this library is missing
 """
 import os
 import pathlib
@@ -34,7 +37,7 @@ RECORDS = 4000
 
 
 def filled(part: bytes, size: int) -> bytes:
-    """As many of the part as there is room for, and then fillers."""
+    """Returns as many copies of `part` as fit into `size` bytes, followed by filler bytes."""
     return (part * (size // len(part))).ljust(size, b"\0")
 
 
@@ -62,11 +65,11 @@ def output_of(work: str, path: pathlib.Path) -> str:
 
 def expect(work: str, path: pathlib.Path, wanted: str) -> None:
     if (found := output_of(work, path)) != wanted:
-        sys.exit(f"measure {work}: {found}, and not {wanted}")
+        sys.exit(f"measure {work}: {found}, expected {wanted}")
 
 
 def speed(content: bytes, path: pathlib.Path) -> float:
-    """In MB/s, on many of the record with this content."""
+    """Returns the speed in MB/s, on many copies of a record with this content."""
     record = tlv("70", content)
     if len(record) != RECORD:
         sys.exit(f"a record of {len(record)} bytes")
@@ -81,7 +84,7 @@ def rows_of(made: Batch) -> int:
 
 
 def resident(path: pathlib.Path) -> int:
-    """Each program writes a line, and stands still at it, since its pipe is full from the start."""
+    """Returns the resident size. Each program blocks when it writes its line, because its pipe is full from the start."""
     raw, batch = (statistics.median_low(peak([MEASURE, work], path, PIPE, 0) for _ in range(PEAK_RUNS)) for work in ("raw", "batch"))
     return batch - raw
 
@@ -114,8 +117,8 @@ def print_speeds(path: pathlib.Path) -> None:
 def print_memory(path: pathlib.Path) -> None:
     write_batch(one_row(2), path)
     floor = resident(path)
-    print("\ncheck_batch, bytes for each row beside the raw bytes; resident sizes are in pages of 4 KiB")
-    print(f"a batch of one row takes {floor / 1024:.0f} KiB resident\n")
+    print("\ncheck_batch, bytes for each row in addition to the raw bytes; resident sizes are in pages of 4 KiB")
+    print(f"a batch of one row: {floor / 1024:.0f} KiB resident\n")
     print(f"{'batch':33} {'rows':>5} {'resident':>9} {'less one row':>13} {'allocated':>10}")
     for made in (cards(200), one_application(4096), own_applications(4096), many_records(1024)):
         write_batch(made, path)

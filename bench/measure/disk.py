@@ -1,11 +1,14 @@
 #!/usr/bin/env python3
-"""Measures how much of the disk a card takes: how the file of `persod serve` grows while one machine makes cards, and what its next start frees.
+"""Measures the disk space for each card, and the space that the next start of a machine frees.
 
     bench/run disk [--cards N] [--short]
 
-The batch is one of make_batch.py, with N cards of one application; with --short each card has twelve requests and commands of at most 40 bytes.
-The file is looked at after each fourth of the cards, each time after `served N`, so that its log is in it. Then the machine starts with its next boot:
-its release frees the replies that were kept for it, and the same room is used again. The largest size of the log is printed too."""
+One machine makes the N cards of a batch. The batch is one of make_batch.py with one application for each card. With --short, each card has
+twelve requests and commands of at most 40 bytes.
+
+The size of the file is read after each quarter of the cards, when the server has exited and its WAL is part of the file. Then the machine starts
+with its next boot number. Its release frees the space of its kept replies, which is then used again. The script also prints the maximum size of
+the WAL."""
 import argparse
 import contextlib
 import pathlib
@@ -37,7 +40,7 @@ def batch_file(cards: int, is_short: bool) -> bytes:
 
 
 class Log(threading.Thread):
-    """Looks how large the log gets."""
+    """Records the maximum size of the WAL."""
 
     def __init__(self, database: pathlib.Path) -> None:
         super().__init__(daemon=True)
@@ -51,7 +54,7 @@ class Log(threading.Thread):
 
 
 class Count(Machine):
-    """A machine that also counts the bytes of commands."""
+    """A machine that also counts the bytes of its commands."""
 
     commands = 0
 
@@ -61,7 +64,7 @@ class Count(Machine):
 
 
 def used(database: pathlib.Path) -> int:
-    """The bytes of the pages that hold something."""
+    """Returns the number of bytes in used pages."""
     with sqlite3.connect(database) as link:
         [pages], [free], [size] = (link.execute(f"PRAGMA {name}").fetchone() for name in ("page_count", "freelist_count", "page_size"))
     link.close()
@@ -104,9 +107,9 @@ def main() -> None:
         server.served()
         kept = used(database) - before
         print(f"a batch file of {len(raw)} bytes took {before - empty}")
-        print(f"{given.cards} cards, {machine.sent} requests, {machine.commands / given.cards:.0f} bytes of commands a card")
-        print(f"the file grew by {whole} bytes: {whole / machine.sent:.0f} a request, {whole / given.cards:.0f} a card")
-        print(f"after a release {kept} bytes of these are in use: {kept / given.cards:.0f} a card; the log had at most {log.most} bytes")
+        print(f"{given.cards} cards, {machine.sent} requests, {machine.commands / given.cards:.0f} bytes of commands per card")
+        print(f"the file grew by {whole} bytes: {whole / machine.sent:.0f} per request, {whole / given.cards:.0f} per card")
+        print(f"after a release {kept} of these bytes are in use: {kept / given.cards:.0f} per card; the WAL had at most {log.most} bytes")
 
 
 if __name__ == "__main__":

@@ -1,10 +1,10 @@
 #!/usr/bin/env python3
-"""Counts the instructions of `persod plan` and of a plain Rust program on the same batch of 200 cards, and their times. It fails where the two print other bytes.
+"""Counts the instructions of `persod plan` and of a plain Rust program on the same batch of 200 cards, and measures their times.
 
     bench/run instructions [FOLDER]
 
-The count is by valgrind's callgrind, which counts the same each time; the time is the best of several runs. The profiles stay in FOLDER. It wants
-valgrind, cargo, and Debian's librust-csv-dev."""
+Requires valgrind, cargo, and Debian's librust-csv-dev. The count is that of valgrind's callgrind, which is the same in each run. The time is the
+best of several runs. The profiles are left in FOLDER. Exit status: 1 if the outputs of the programs differ."""
 import pathlib
 import re
 import subprocess
@@ -41,14 +41,14 @@ def seconds(words: list[str], batch: bytes) -> float:
 def compare(ours: list[str], plain: list[str], room: pathlib.Path) -> int:
     batch = cards(200).text
     if printed(ours, batch) != printed(plain, batch):
-        print("the two programs print other bytes")
+        print("the outputs of the two programs differ")
         return 1
     counts = {}
     for name, words in {"persod": ours, "plain": plain}.items():
         counts[name] = instructions(words, batch, room / f"{name}.callgrind"), seconds(words, batch)
         print(f"{name}: {counts[name][0] / 1e6:.1f} million instructions, {counts[name][1] * 1e3:.2f} ms")
     ratios = [counts["persod"][i] / counts["plain"][i] for i in (0, 1)]
-    print(f"persod over plain, {len(batch)} bytes: {ratios[0]:.2f} times the instructions, {ratios[1]:.2f} times the time")
+    print(f"persod compared with plain, {len(batch)} bytes: {ratios[0]:.2f} times the instructions, {ratios[1]:.2f} times the time")
     return 0
 
 

@@ -1,18 +1,22 @@
 #!/usr/bin/env python3
-"""Measures what the statements of each arrival take by the SQLite that we use, which no server
-over it can be faster than, beside the same statements by C's SQLite (WAL, synchronous FULL). No
-message is read and nothing is decided. It takes two minutes. Linux alone.
+"""Measures the time of the SQL statements of each arrival, with the toolchain's crate `sqlite` and
+with the SQLite library.
 
     bench/run kit [FOLDER] [--rounds N]
 
-The programs are programs/measure_kit.txt and c/same.c. Each runs over a copy of the same file on
-the disk of FOLDER, in turns: a batch of make_batch.py is imported, 20 of its
-cards are opened, each gets eleven answers, and a last one with which it is good (arrivals.py).
-This is done with batches of 200 cards and of 20, over a file with no card yet and over one with
-100,352 good cards and a kept reply for each. What is printed of each kind is the median of all
-single times, and the processor's time of an arrival, in milliseconds, with C's as a part of ours.
-The times are those of the statements alone; in the processor's the reading of the arrival is, too.
-In the end both files hold the same rows, which is tested.
+Requires Linux, and takes two minutes. No message is read and nothing is decided, so no server
+that uses the crate can be faster. The SQLite library uses WAL and synchronous FULL.
+
+The programs are programs/measure_kit.txt and c/same.c. Each works on a copy of the same file on
+the disk of FOLDER, and they take turns. In a round a batch of make_batch.py is imported, 20 of
+its cards are opened, and each gets eleven answers and a last one, after which it is good
+(arrivals.py). The batches have 200 or 20 cards. The file has no cards at first, or 100,352 good
+cards with a kept reply for each.
+
+For each kind of arrival, the script prints the median of all single times and the processor time
+of an arrival in milliseconds, and the ratio of the library to the crate. The times are those of
+the statements only. The processor time also includes reading the arrival. At the end the script
+checks that both files have the same rows.
 """
 import argparse
 import json
@@ -49,7 +53,7 @@ class Group(NamedTuple):
 
 
 class Floor:
-    """What is asked over a file, round by round."""
+    """Makes the arrivals of each round on a file."""
 
     def __init__(self, database: pathlib.Path, cards: int) -> None:
         link = sqlite3.connect(database)
@@ -103,7 +107,8 @@ def ended(session: int, its: Card) -> bytes:
 
 
 class Times:
-    """The times of a program, by kind: of the clock, and the processor's of an arrival."""
+    """The times of a program by kind of arrival: wall-clock times, and processor times for each
+    arrival."""
 
     def __init__(self, runner: Runner) -> None:
         self.runner = runner
@@ -117,8 +122,8 @@ class Times:
 
 
 def measure(given: argparse.Namespace, folder: pathlib.Path, made: Rows, cards: int) -> int:
-    """Prints what each kind takes, and answers how many bytes a batch has."""
-    make(base := folder / "base.db", made, SHAPES["our own tables"])
+    """Prints the times of each kind, and returns the size of a batch file in bytes."""
+    make(base := folder / "base.db", made, SHAPES["current tables"])
     floor, sides = Floor(base, cards), []
     for name, program in (("kit", given.kit), ("same", given.same)):
         shutil.copyfile(base, database := folder / f"{name}.db")
@@ -145,7 +150,7 @@ def test_equal(one: pathlib.Path, other: pathlib.Path) -> None:
         query = f"SELECT rowid, * FROM {table} ORDER BY rowid"
         pairs = zip(*(link.execute(query) for link in links), strict=True)
         if any(mine != its for mine, its in pairs):
-            sys.exit(f"{table} has other rows")
+            sys.exit(f"the rows of {table} differ")
     for link in links:
         link.close()
 

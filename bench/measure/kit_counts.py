@@ -1,16 +1,20 @@
 #!/usr/bin/env python3
-"""Counts the instructions of each statement of arrivals.py by the SQLite that we use and by C's,
-by valgrind's callgrind, which counts nearly the same each time. It takes three minutes, and needs
-valgrind.
+"""Counts the instructions of each SQL statement of arrivals.py, with the toolchain's crate `sqlite`
+and with the SQLite library.
 
     bench/run kit_counts [--cards N]
 
-The programs are programs/measure_kit.txt and c/same.c. Each runs over a new file that holds one
-batch of N cards, 20 of which are open. A statement runs in transactions of its own, so that one
-that writes has its commit with it; what an empty transaction takes is left out. A record is added
-beside its batch's bytes, which an import sets behind all records. The counts are of one run, in
-thousands. Of the copies of whole blocks, as of a batch's file, callgrind counts a byte as an
-instruction or more, so the time of those is less than their part.
+Requires valgrind, and takes three minutes. callgrind's counts are nearly the same in each run.
+
+The programs are programs/measure_kit.txt and c/same.c. Each works on a new file with one batch
+of N cards, 20 of which are open. A statement runs in transactions of its own, so the count of a
+writing statement includes its commit. The count of an empty transaction is subtracted. Records
+are added after the bytes of their batch were set, although an import sets the bytes after all
+records.
+
+The counts are of one run, in thousands. When a block such as a batch file is copied, callgrind
+counts at least one instruction for each byte, so these copies take less time than their count
+suggests.
 """
 import argparse
 import os
@@ -44,7 +48,7 @@ READS: dict[str, Values] = {
     "first_aid": (BATCH, 3),
     "groupings": (BATCH, 3),
 }
-# By the number of the run: what is added differs.
+# Functions of the number of the run, because each run must add other rows.
 WRITES: dict[str, Callable[[int], Values]] = {
     "add_session": lambda n: (1_000 + n, "q", BATCH, 3, 5_000 + n),
     "add_blank": lambda n: (7_000 + n, LOT, 0),
@@ -71,7 +75,8 @@ class Counted(Runner):
         super().__init__(str(script), folder / "base.db", folder / "texts")
 
     def count(self, transactions: list[list[str]]) -> float:
-        """The instructions of one of these, which run one after the other."""
+        """Returns the mean number of instructions of these transactions, which run one after the
+        other."""
         self.since_last()
         self.run([arrival_of(lines) for lines in transactions])
         return self.since_last() / len(transactions)
@@ -91,7 +96,7 @@ def arrival_of(lines: list[str]) -> bytes:
 
 
 def counts_of(program: str, folder: pathlib.Path, cards: int) -> dict[str, float]:
-    make(folder / "base.db", rows(holding({}, [], [])), SHAPES["our own tables"])
+    make(folder / "base.db", rows(holding({}, [], [])), SHAPES["current tables"])
     floor, runner = Floor(folder / "base.db", cards), Counted(program, folder)
     imports, openings, *_ = floor.round()
     for group in (imports, openings):

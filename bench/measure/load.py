@@ -1,17 +1,18 @@
 #!/usr/bin/env python3
-"""Measures how many arrivals are served in a second: 10,000 messages as bytes, each on a connection of its own, over a store in memory.
+"""Measures how many arrivals per second are served from a store in memory.
 
     bench/run load
 
-It runs the program of crates/measure.
+The script runs the program of crates/measure, and takes about ten minutes.
 
-The load is one product, lots, one batch of 200 cards, and 20 machines taken in turn, each of which opens a card, reports each
-word as 9000, and goes on to the next card. Every message is asked anew, so each is decided and kept.
+The load is 10,000 messages, each on its own connection: one product, lots, one batch of 200 cards, and 20 machines that take turns. A machine
+opens a card, reports 9000 for each command, and opens the next card. No message is a repeat, so each is decided and its reply kept.
 
-`measure load` serves what it reads. It has no clock, so the first and the last thousand arrivals cost the time of a run with them
-less that of a run without them. The store of lists reads its batch again for each arrival, which is most of the time: in all
-it takes about ten minutes. The cost of reading and answering a message alone is that of messages which never reach the store: a
-GET whose target has no route, and a POST whose JSON is read whole and has a member too many; without that one it would be accepted.
+`measure load` serves the messages that it reads. It has no clock. The time of the first and of the last thousand arrivals is therefore the
+difference of two runs, with and without them. Most of the time is spent by the store of lists, which reads its batch again for each arrival.
+
+The time to read a message and write its response is measured with messages that never reach the store: a GET whose target has no route, and a
+POST whose JSON has one member too many and would otherwise be accepted.
 """
 import itertools
 import pathlib
@@ -34,7 +35,7 @@ AID = "F00000000101"
 
 
 def batch() -> str:
-    """Each card has one segment of so many pieces, in groupings of at most 240 bytes as they are sent: identifier, length and data."""
+    """Returns a batch file. Each card has one segment of PIECES pieces, in groupings of at most 240 bytes: identifier, length and data."""
     lines = ["record,aid,rank,enc,tol,dgi"]
     size = PIECES * MOST
     for card in range(CARDS):
@@ -57,7 +58,7 @@ def set_up() -> list[bytes]:
 
 
 def machine(name: str, sessions: "itertools.count[int]", blanks: "itertools.count[int]"):
-    """The messages of a machine, one after the other."""
+    """Yields the messages of a machine in order."""
     numbers = itertools.count(1)
     while True:
         session = next(sessions)
@@ -74,7 +75,7 @@ def arrivals() -> list[bytes]:
 
 
 def time_of(messages: list[bytes], accepted: int, path: pathlib.Path, runs: int) -> float:
-    """Messages have no byte 0, which therefore stands between them."""
+    """Returns the best time of several runs. The messages are separated by bytes 0, which don't occur in them."""
     path.write_bytes(b"\0".join(messages))
     best = float("inf")
     for _ in range(runs):
@@ -83,14 +84,14 @@ def time_of(messages: list[bytes], accepted: int, path: pathlib.Path, runs: int)
             printed = subprocess.run([MEASURE, "load"], stdin=source, capture_output=True, check=True, text=True).stdout.strip()
             best = min(best, time.perf_counter() - start)
         if printed != f"served {len(messages)} accepted {accepted}":
-            sys.exit(f"measure load: {printed}, and not {len(messages)} accepted {accepted}")
+            sys.exit(f"measure load: {printed}, expected {len(messages)} accepted {accepted}")
     return best
 
 
 def print_load(path: pathlib.Path) -> None:
     front, load = set_up(), arrivals()
     print(f"\n{ARRIVALS} arrivals of {MACHINES} machines on a batch of {CARDS} cards\n")
-    print(f"{'arrivals':>16} {'in a second':>12}")
+    print(f"{'arrivals':>16} {'per second':>12}")
     for count in (STEP, ARRIVALS):
         before, after = (time_of(front + load[:n], len(front) + n, path, 1) for n in (count - STEP, count))
         print(f"{count - STEP:7} to {count:5} {STEP / max(after - before, 0.001):12.0f}", flush=True)
@@ -101,7 +102,7 @@ def print_messages(path: pathlib.Path) -> None:
         "GET without a body": b"GET /nothing/here/at/all HTTP/1.1\r\nHost: localhost\r\nUser-Agent: bench\r\nAccept: */*\r\n\r\n",
         "POST of JSON": post("office", 1, '{"do":"product","product":"P1","max":255,"low":0,"check":false,"more":0}'),
     }
-    print("\nreading and answering a message, in microseconds\n")
+    print("\ntime to read and answer a message, in microseconds\n")
     for name, message in messages.items():
         none, all_of_them = (time_of([message] * count, 0, path, RUNS) for count in (1, ARRIVALS))
         print(f"{name:20} {(all_of_them - none) / ARRIVALS * 1e6:8.1f}", flush=True)

@@ -1,15 +1,17 @@
 #!/usr/bin/env python3
-"""Measures `persod plan`: time, speed and memory, and how both grow with the batch.
+"""Measures the time, speed and memory of `persod plan`, and their growth with the size of the batch.
 
-    bench/run plan [WORD..]
+    bench/run plan [OPTION..]
 
-The words go on to `persod plan` (the batches are made for pieces of 255 bytes, so --low and --check serve, and --max does not). Linux alone.
+Requires Linux. The options are passed to `persod plan`. Use only --low and --check, because the batches are made for pieces of 255 bytes.
 
-Time is the best of several runs, from the start of the process to its end, with the output thrown away.
-Peak is the highest resident size, read while the program waits to write the last of its output.
-Files of the most bytes that are refused come last; their peak is read while the program waits to print the fault.
-Growth is the ratio of two times over the ratio of the two sizes: 1 is linear, more is worse. For it alone
-the time of a batch of one row, that is of starting and ending, is taken off both times.
+- ms: the best time of several runs, from the start of the process to its end. The output is
+  discarded
+- peak: the peak resident size, read while the program waits to write the end of its output
+- growth: the ratio of two times divided by the ratio of the two sizes. 1 is linear, and more is
+  worse. The time of a batch of one row is subtracted from both times
+
+The last table is for refused files of the maximum size. Their peak is read while the program waits to print the fault.
 """
 import pathlib
 import subprocess
@@ -49,7 +51,7 @@ def batch(name: str, records: int, rows: Iterator[str]) -> Batch:
 
 
 def grouping(k: int, size: int) -> str:
-    """The k-th grouping, of an identifier that no other k has and that is no record's."""
+    """Returns grouping `k`. Each `k` has a different identifier, which isn't that of an EMV record."""
     return coded(f"{0x9000 + k:04X}", bytes([k % 256]) * size)
 
 
@@ -58,7 +60,7 @@ def one_row(size: int) -> Batch:
 
 
 def one_application(rows: int) -> Batch:
-    """4,096 such rows are 256 * 255 bytes as they are sent: the most that an application may have."""
+    """Returns a batch with one application. With 4,096 rows it has 256 * 255 bytes, the maximum for an application."""
     made = (f"R1,{AID},1,0,0,{grouping(k, 12 if k % 16 == 0 else 13)}" for k in range(rows))
     return batch(f"{rows} rows of one application", 1, made)
 
@@ -69,7 +71,7 @@ def own_applications(rows: int) -> Batch:
 
 
 def own_segments(applications: int) -> Batch:
-    """Each row is a segment, and the last that is read is the first that is sent."""
+    """Returns a batch in which each row is a segment, and the segments are sent in reverse order."""
     made = (f"R1,F00000{a:08X},{256 - k},0,0,{grouping(k, 13)}" for a in range(applications) for k in range(256))
     return batch(f"{applications * 256} segments of one row", 1, made)
 
@@ -90,7 +92,7 @@ def large_groupings(rows: int) -> Batch:
 
 
 def output_of(words: list[str], path: pathlib.Path, records: int) -> int:
-    """Runs once, and answers the size of the output, which has a line for each record."""
+    """Runs the program once, and returns the size of the output, which has a line for each record."""
     with path.open("rb") as source:
         ran = subprocess.run(words, stdin=source, capture_output=True)
     found = sum(line.startswith(b"record ") for line in ran.stdout.split(b"\n"))
@@ -103,13 +105,13 @@ def measure(words: list[str], made: Batch, folder: pathlib.Path) -> Measured:
     path = folder / f"{made.name.replace(' ', '-')}.csv"
     path.write_bytes(made.text)
     written = output_of(words, path, made.records)
-    # All of the output is taken but what the pipe can't hold.
+    # The pipe holds the rest of the output.
     highest = peak(words, path, 0, written - PIPE - 1) if written > PIPE else 0
     return Measured(len(made.text), best_time(words, path, RUNS), highest)
 
 
 def refused() -> Iterator[tuple[str, bytes]]:
-    """Files of the most bytes that are one row each, or nearly."""
+    """Yields files of the maximum size that consist of one row, or nearly."""
     header = HEADER.encode() + b"\n"
     yield "a row of commas", b"," * MOST_FILE
     yield "a header, then a row of commas", header + b"," * (MOST_FILE - len(header))

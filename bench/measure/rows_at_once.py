@@ -1,14 +1,16 @@
 #!/usr/bin/env python3
-"""Counts the instructions of an import whose INSERTs add so many rows each, by the SQLite that we
-use and by C's, by valgrind's callgrind, which counts nearly the same each time. It takes two
-minutes, and needs valgrind.
+"""Counts the instructions of an import, by the number of rows that an INSERT statement adds.
 
     bench/run rows_at_once [--cards N] [--rows N ..]
 
+Requires valgrind, and takes two minutes. callgrind's counts are nearly the same in each run. The
+statements run with the toolchain's crate `sqlite` and with the SQLite library.
+
 The programs are programs/measure_kit.txt and c/same.c. Each imports batches of N cards of
-make_batch.py by the statements of arrivals.py, with the texts of the INSERTs of records and of rows
-of the file made for each number of rows. Rows that are left are added one by one. The second
-import is counted, in thousands. Beside it stands what it is of the first number's.
+make_batch.py with the statements of arrivals.py. The INSERTs of records and groupings are
+changed to add the given numbers of rows, and remaining rows are added one at a time. The script
+counts the second import, in thousands, and prints the ratio of each count to that of the first
+number of rows.
 """
 import argparse
 import os
@@ -26,13 +28,13 @@ TABLES = "record", "grouping"
 
 
 def of_many(text: str, rows: int) -> str:
-    """The text of an INSERT of one row, for so many."""
+    """Returns an INSERT of `rows` rows, made from one of a single row."""
     head, values, row = text.partition(" VALUES ")
     return head + values + ", ".join([row] * rows)
 
 
 def add_at_once(rows: int) -> None:
-    """From now on the statements of arrivals.py add so many rows."""
+    """Makes the statements of arrivals.py add `rows` rows at a time."""
     arrivals.AT_ONCE = rows
     for table in TABLES:
         arrivals.TEXTS[f"add_{table}s"] = of_many(arrivals.TEXTS[f"add_{table}"], rows)
@@ -41,7 +43,7 @@ def add_at_once(rows: int) -> None:
 def import_of(program: str, cards: int) -> float:
     with tempfile.TemporaryDirectory() as made:
         folder = pathlib.Path(made)
-        make(folder / "base.db", rows(FILES["no card"]()), SHAPES["our own tables"])
+        make(folder / "base.db", rows(FILES["no card"]()), SHAPES["current tables"])
         floor, runner = Floor(folder / "base.db", cards), Counted(os.path.abspath(program), folder)
         first, second = (next(floor.round()).arrivals for _ in range(2))
         runner.run(first)
@@ -61,7 +63,7 @@ def main() -> None:
     words.add_argument("--rows", type=int, nargs="+", default=[1, 16, 32, 64, 128])
     given = words.parse_args()
     first: list[float] = []
-    print(f"{'rows a statement':18}{'kit':>10}{'':>6}{'C':>10}{'':>6}{'C/kit':>8}")
+    print(f"{'rows per INSERT':18}{'kit':>10}{'':>6}{'C':>10}{'':>6}{'C/kit':>8}")
     for number in given.rows:
         add_at_once(number)
         counts = [import_of(program, given.cards) for program in (given.kit, given.same)]

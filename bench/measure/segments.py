@@ -1,12 +1,11 @@
 #!/usr/bin/env python3
-"""Measures the processor's time of an answer where its record has many other segments, beside that of a record of the same batch that has
-few. Linux alone.
+"""Measures the processor time of an answer, by the number of segments of its record.
 
     bench/run segments
 
-A batch has a record of so many applications, each with one grouping of 16,000 bytes, so each has one segment; and a record of two such
-applications. A card of each is opened, and its first answers are timed together, over a file on a disk in memory. The largest batch has
-16 MB.
+Requires Linux. A batch has a record with many applications, and a record with two. Each application has one grouping of 16,000 bytes, so it has
+one segment. The largest batch has 16 MB. A card of each record is opened, and its first answers are timed together. The database file is on a
+disk in memory.
 """
 import json
 import pathlib
@@ -34,12 +33,12 @@ def batch_file(applications: int) -> bytes:
 def asked(server: Server, message: bytes) -> dict[str, object]:
     reply = parts(exchange(server.port, message))
     if not reply or reply[0] != 200:
-        sys.exit(f"the reply {reply} to {message[:80]!r}")
+        sys.exit(f"unexpected reply {reply} to {message[:80]!r}")
     return json.loads(reply[1])
 
 
 def time_of_answer(server: Server, machine: str, blank: int, record: str) -> float:
-    """Seconds of the processor, the mean of the first answers of the next card."""
+    """Returns the mean processor seconds of the first answers of a new card."""
     opened = asked(server, request(machine, 1, do="open", batch="B1", blank=blank))
     assert opened["record"] == record, opened
     begun = server.processor()
@@ -49,7 +48,7 @@ def time_of_answer(server: Server, machine: str, blank: int, record: str) -> flo
 
 
 def times(applications: int) -> tuple[float, float]:
-    """Of the record with so many applications, and of the one with two."""
+    """Returns the times for the record with `applications` applications, and for the one with two."""
     with tempfile.TemporaryDirectory(dir=MEMORY) as folder:
         server = Server(PROGRAM, pathlib.Path(folder) / "shop.db", free_port())
         asked(server, request("office", 1, do="product", product="P1", max=255, low=0, check=False))
@@ -63,7 +62,7 @@ def times(applications: int) -> tuple[float, float]:
 def main() -> None:
     for applications in APPLICATIONS:
         many, few = times(applications)
-        print(f"{applications:4} applications: {many * 1e3:.2f} ms an answer, beside {few * 1e3:.2f} of two: {many / few:.2f}", flush=True)
+        print(f"{applications:4} applications: {many * 1e3:.2f} ms per answer; of two: {few * 1e3:.2f} ms; ratio {many / few:.2f}", flush=True)
 
 
 if __name__ == "__main__":

@@ -1,16 +1,17 @@
 #!/usr/bin/env python3
-"""Counts the instructions of each kind of request to `persod serve`, by valgrind's callgrind, beside
-those of what the tables need for it by the SQLite that we use (programs/measure_kit.txt), which is
-served the same. A count is nearly the same each time, whatever else the machine does. It takes two
-minutes, and needs valgrind.
+"""Counts the instructions of each kind of request to `persod serve`, and of its SQL statements alone.
 
     bench/run served_counts [--cards N ..]
 
-One machine makes cards of make_batch.py, N to a batch, each by an opening, ten answers that go on and
-a last one. The second import is counted, and five cards but the first. Of each kind the median is
-printed, since now and then a commit copies the log into the file. The files lie in memory. Below
-each kind stand the crates that take the most, with what they take of the other. Of copies of whole
-blocks, as of a batch's file, callgrind counts an instruction for 32 bytes or so."""
+Requires valgrind, and takes two minutes. callgrind's counts are nearly the same in each run, whatever else the machine does. The statements
+alone are run by programs/measure_kit.txt, a server that uses the toolchain's crate `sqlite`.
+
+One machine makes cards of make_batch.py with N cards in a batch. Each card has an opening, ten answers that continue, and a last answer. The
+script counts the second import, and five cards after the first. It prints the median of each kind, because some commits include a checkpoint.
+The database files are in memory.
+
+Below each kind, the script lists the crates with the highest counts, and their counts in the other program. When a block such as a batch file is
+copied, callgrind counts about one instruction for 32 bytes."""
 import argparse
 import pathlib
 import re
@@ -34,14 +35,14 @@ ALLOCATOR = re.compile(r"(_int_)?(malloc|free|realloc)\w*$|rattle_(de)?alloc$|un
 
 
 class Asked(NamedTuple):
-    """A request, and its reply's body."""
+    """A request, and the body of its reply."""
 
     message: bytes
     body: bytes
 
 
 class Phase(NamedTuple):
-    """Requests of a kind in turn, and whether they are counted."""
+    """Consecutive requests of a kind, and whether they are counted."""
 
     kind: str
     is_counted: bool
@@ -49,7 +50,7 @@ class Phase(NamedTuple):
 
 
 def counted(kind: type[Server], counts: pathlib.Path) -> type[Server]:
-    """Such a server under callgrind, which counts nothing yet."""
+    """Returns the server class `kind` under callgrind, which counts nothing at first."""
 
     class Counted(kind):  # type: ignore[misc, valid-type]
         def command(self, program: str, database: pathlib.Path) -> list[str]:
@@ -63,7 +64,7 @@ def control(server: Server, *words: str) -> None:
 
 
 def phase(server: Server, kind: str, work: Callable[[], None]) -> None:
-    """Counts what a work takes of the server."""
+    """Counts the instructions of the server during `work`."""
     control(server, "--zero")
     control(server, "--instr=on")
     work()
@@ -76,7 +77,7 @@ def phase(server: Server, kind: str, work: Callable[[], None]) -> None:
 
 
 def ours(program: str, machines: str, folder: pathlib.Path, cards: int) -> tuple[list[Phase], pathlib.Path]:
-    """Makes the cards. Answers what was asked, and the file as it was before the first batch."""
+    """Makes the cards. Returns the requests, and the path of a copy of the file before the first batch."""
     database, begun = folder / "ours.db", folder / "kit.db"
     server = counted(Server, folder / "ours.counts")(program, database, free_port())
     shop, asked = Shop(server, cards, Machines(machines, cards)), []
@@ -86,7 +87,7 @@ def ours(program: str, machines: str, folder: pathlib.Path, cards: int) -> tuple
             shutil.copyfile(path, f"{begun}{end}")
 
     def go(kind: str, is_counted: bool, make: Callable[[], list[tuple[bytes, bytes]]]) -> bytes:
-        """Answers the last reply."""
+        """Runs a phase, and returns the body of its last reply."""
         its: list[Asked] = []
         work = lambda: its.extend(Asked(*one) for one in make())
         phase(server, kind, work) if is_counted else work()
@@ -107,7 +108,7 @@ def ours(program: str, machines: str, folder: pathlib.Path, cards: int) -> tuple
 
 
 def the_kits(program: str, folder: pathlib.Path, begun: pathlib.Path, asked: list[Phase]) -> None:
-    """Asks the kit's statements the same."""
+    """Runs the SQL statements of the same requests in the other server."""
     translator = Translator(folder / "ours.db")
     translator.batches = {}
     server = counted(Same, folder / "kit.counts")(program, begun, free_port())
@@ -128,12 +129,12 @@ def the_kits(program: str, folder: pathlib.Path, begun: pathlib.Path, asked: lis
 
 def crate_of(function: str) -> str:
     if C_LIBRARY.match(function):
-        return "copies of memory"
+        return "memory copies"
     return "malloc" if ALLOCATOR.match(function) else function.split("::")[0]
 
 
 def counts_in(path: pathlib.Path) -> tuple[str, Counter[str]]:
-    """The kind that a dump names, and what each crate took itself."""
+    """Returns the kind that a dump names, and the count of each crate itself."""
     names: dict[str, str] = {}
     kind, function, is_call, taken = "", "", False, Counter[str]()
     for line in path.read_text(errors="replace").splitlines():
@@ -152,7 +153,7 @@ def counts_in(path: pathlib.Path) -> tuple[str, Counter[str]]:
 
 
 def medians(folder: pathlib.Path, name: str) -> dict[str, Counter[str]]:
-    """Of each kind the dump in the middle, by what was taken in all."""
+    """Returns for each kind the dump with the median total."""
     found: dict[str, list[Counter[str]]] = {kind: [] for kind in KINDS}
     for path in folder.glob(f"{name}.counts.*"):
         kind, taken = counts_in(path)
@@ -162,7 +163,7 @@ def medians(folder: pathlib.Path, name: str) -> dict[str, Counter[str]]:
 
 def show(cards: int, one: dict[str, Counter[str]], other: dict[str, Counter[str]]) -> None:
     thousands = lambda count, kind: count / 1e3 / (ANSWERS if kind == ANSWER else 1)
-    print(f"{cards} cards to a batch, thousand instructions      ours       kit   kit/ours")
+    print(f"{cards} cards in a batch, thousand instructions      ours       kit   kit/ours")
     for kind in KINDS:
         mine, its = one[kind].total(), other[kind].total()
         print(f"{kind:46}{thousands(mine, kind):9.0f} {thousands(its, kind):9.0f} {its / mine:10.2f}")

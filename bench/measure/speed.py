@@ -1,27 +1,30 @@
 #!/usr/bin/env python3
-"""Measures how many requests `persod serve` answers in a second, and how long one takes, beside
-three other servers on the same disk in the same run. It takes five minutes.
+"""Measures the rate and the times of requests to `persod serve`, and compares them with other servers.
 
     bench/run speed [--folder FOLDER] [--few N] [--many N] [--chunks N] [--cards N ..]
 
-1, 4 and 20 machines (c/machines.c) open and answer whole cards of make_batch.py, N to a batch,
-over loopback, each message on a connection of its own, each commit synced to the disk of FOLDER.
-The others take what was asked of ours, in turns, in chunks of a thousand:
+Takes five minutes. 1, 4 and 20 machines (c/machines.c) open and answer whole cards of make_batch.py, with N cards in a batch. Each message has
+its own loopback connection, and each commit is synced to the disk of FOLDER. Then the other servers get the same requests. The servers take
+turns in chunks of a thousand requests:
 
-    plain    c/yardstick.c, which keeps each message in one small transaction of C's
-             SQLite
-    same     c/same.c, which runs what our tables need for it (arrivals.py) by C's SQLite
-    kit      programs/measure_kit.txt, which does so by the SQLite that we use: what no server
-             over that can be faster than
+    plain    c/yardstick.c, which stores each message in one small transaction with the SQLite
+             library
+    same     c/same.c, which executes the SQL statements of each request (arrivals.py) with the
+             SQLite library
+    kit      programs/measure_kit.txt, which executes them with the toolchain's crate `sqlite`.
+             No server that uses the crate can be faster
 
-It prints the median of chunks, the middle and the slowest hundredth of all single times, the
-processor's time of a request, ours as a part of its rate, and the middle time of an opening, an
-answer that goes on, a last answer and an import. This is done on files that hold 1,000 and
-100,000 requests, which were asked before, of the same server on a disk in memory; the rate of
-that is printed too. In the end `same` and `kit` hold as many rows as ours and the same counters,
-which is tested. First comes the start on a file of 100,352 good cards with a kept reply for each,
-made by plain SQL, beside `PRAGMA integrity_check` and `foreign_key_check` by C's SQLite. Peak
-memory is the highest resident size."""
+For each server the script prints:
+
+- the median rate of the chunks, and the ratio of ours to this rate
+- the median and the 99th percentile of all single times, and the processor time of a request
+- the median time of an opening, an answer that continues, a last answer, and an import
+
+The files have 1,000 and 100,000 earlier requests. These were served from a disk in memory, and their rate is also printed. At the end the script
+checks that `same` and `kit` have the same numbers of rows and the same counters as ours.
+
+The first measurement is the start on a file of 100,352 good cards with a kept reply for each, made by plain SQL. It is compared with `PRAGMA
+integrity_check` and `PRAGMA foreign_key_check` of the SQLite library. Peak memory is the peak resident size."""
 import argparse
 import json
 import os
@@ -55,7 +58,7 @@ NUMBER = struct.Struct("=Q")
 
 
 class Asked(NamedTuple):
-    """A message of a kind, and the same as what the tables need for it."""
+    """A message of a kind, and the SQL statements for it."""
 
     kind: str
     message: bytes
@@ -63,7 +66,7 @@ class Asked(NamedTuple):
 
 
 class Chunk(NamedTuple):
-    """Requests in a second, the processor's seconds of each, and how long each took."""
+    """The requests per second of a chunk, the processor seconds of a request, and the time of each request."""
 
     rate: float
     processor: float
@@ -71,14 +74,14 @@ class Chunk(NamedTuple):
 
 
 class Yardstick(Server):
-    """The plain server in C. It ends when it is killed."""
+    """The plain server in C. It runs until it is killed."""
 
     def command(self, program: str, database: pathlib.Path) -> list[str]:
         return [program, str(database), str(self.port)]
 
 
 class Same(Server):
-    """A server over our tables that runs what a message's body asks for, until it is killed."""
+    """A server on the tables of persod that executes the statements in the body of a message. It runs until it is killed."""
 
     def command(self, program: str, database: pathlib.Path) -> list[str]:
         texts = arrivals.write_texts(database.with_suffix(".texts"))
@@ -86,8 +89,8 @@ class Same(Server):
 
 
 class Translator:
-    """Says what the tables need for what was asked of ours and what it replied. Where a card stands behind
-    an answer is not known here: a place of like size is written."""
+    """Translates requests and their replies into SQL statements. The cursor after an answer isn't known here, so a cursor of similar size is
+    written."""
 
     def __init__(self, database: pathlib.Path) -> None:
         link = sqlite3.connect(f"file:{database}?mode=ro", uri=True)
@@ -132,17 +135,17 @@ class Translator:
 
 
 class Machines:
-    """The machines in front of any server. Each goes on with its card from chunk to chunk."""
+    """The machines, for any server. Each continues with its card from chunk to chunk."""
 
     def __init__(self, program: str, cards: int) -> None:
         self.process = subprocess.Popen([program, str(cards)], stdin=subprocess.PIPE, stdout=subprocess.PIPE)
 
     def cards(self, server: Server, machines: int, count: int) -> tuple[Chunk, list[list[tuple[bytes, bytes]]]]:
-        """So many requests by so many machines, and what each of them asked, with the reply's body."""
+        """Sends `count` requests from `machines` machines. Returns the chunk, and the requests of each machine with the bodies of their replies."""
         return self.run(server, "cards", machines, count, b"")
 
     def again(self, server: Server, asked: list[list[bytes]]) -> Chunk:
-        """What each machine asked of another server."""
+        """Sends the same requests to another server."""
         sent = [[NUMBER.pack(len(messages)), *(NUMBER.pack(len(one)) + one for one in messages)] for messages in asked]
         return self.run(server, "again", len(asked), sum(map(len, asked)), b"".join(piece for pieces in sent for piece in pieces))[0]
 
@@ -155,11 +158,11 @@ class Machines:
         for _ in range(machines):
             asked.append([self.exchanged(times) for _ in range(self.number())])
         if len(times) != count:
-            sys.exit(f"{len(times)} of {count} were answered")
+            sys.exit(f"only {len(times)} of {count} requests got a reply")
         return Chunk(count / took * 1e9, (server.processor() - processor) / count, times), asked
 
     def exchanged(self, times: list[float]) -> tuple[bytes, bytes]:
-        """A message, and the body of its reply."""
+        """Reads a message and the body of its reply."""
         took, message, reply = self.number(), self.number(), self.number()
         times.append(took / 1e9)
         asked, whole = self.read(message), parts(self.read(reply))
@@ -178,7 +181,7 @@ class Machines:
 
 
 class Shop:
-    """A server with its batches, and with the machines that take their cards."""
+    """A server with its batches, and the machines that make their cards."""
 
     def __init__(self, server: Server, cards: int, machines: Machines) -> None:
         self.server, self.cards, self.machines, self.draw = server, cards, machines, random.Random(1)
@@ -199,15 +202,14 @@ class Shop:
             self.ask(request("office", self.number, do="lot", **its), [])
 
     def ready(self, times: list[float]) -> list[tuple[bytes, bytes]]:
-        """Imports batches until there are cards enough for a chunk, and answers each request and
-        its reply."""
+        """Imports batches until there are enough cards for a chunk. Returns each request and its reply."""
         brought = []
         while self.batches * self.cards < self.opened + STEP // LEAST + max(MACHINES):
             brought.append(self.bring(times))
         return brought
 
     def bring(self, times: list[float]) -> tuple[bytes, bytes]:
-        """Imports a batch."""
+        """Imports a batch. Returns the request and the body of its reply."""
         self.batches += 1
         lines = [line for place in range(self.cards) for line in card(self.draw, f"R{place}", 1)]
         raw = "\n".join(["record,aid,rank,enc,tol,dgi", *lines, ""]).encode()
@@ -216,7 +218,7 @@ class Shop:
         return message, self.ask(message, times)
 
     def make(self, machines: int) -> tuple[Chunk, list[list[tuple[bytes, bytes]]]]:
-        """A chunk of cards."""
+        """Makes a chunk of cards."""
         chunk, asked = self.machines.cards(self.server, machines, STEP)
         self.opened += sum(b'"do":"open"' in message for messages in asked for message, _ in messages)
         return chunk, asked
@@ -257,7 +259,7 @@ class Side:
 def replayed(
     name: str, server: Server, machines: Machines, brought: list[Asked], asked: list[list[Asked]]
 ) -> tuple[Chunk, list[float]]:
-    """What was asked of ours, of another server: the imports first, and how long they took."""
+    """Sends the same requests to another server, imports first. Returns the chunk and the times of the imports."""
 
     def its(one: Asked) -> bytes:
         return one.message if name == "plain" else post("same", 0, one.same)
@@ -288,7 +290,7 @@ def measure(
 
 
 def test_alike(database: pathlib.Path, other: pathlib.Path) -> None:
-    """Each table has as many rows, and each batch the same counters."""
+    """Checks that each table has the same number of rows, and each batch the same counters."""
     held = []
     for path in (database, other):
         link = sqlite3.connect(path)
@@ -298,11 +300,11 @@ def test_alike(database: pathlib.Path, other: pathlib.Path) -> None:
         held.append((counts, link.execute(head).fetchall()))
         link.close()
     if held[0] != held[1]:
-        sys.exit(f"{database} and {other} hold {held[0]} and {held[1]}")
+        sys.exit(f"{database} and {other} differ: {held[0]} and {held[1]}")
 
 
 def moved(folder: pathlib.Path, target: pathlib.Path) -> pathlib.Path:
-    """Copies a file and its log from the disk in memory."""
+    """Copies a database file and its WAL from the disk in memory."""
     for end in ("", "-wal"):
         if (path := folder / f"shop.db{end}").exists():
             shutil.copyfile(path, f"{target}{end}")
@@ -315,14 +317,14 @@ def size_of(database: pathlib.Path) -> str:
 
 
 def filled(programs: argparse.Namespace, count: int, cards: int, memory: pathlib.Path) -> Shop:
-    """A shop that was asked so many requests on a disk in memory; its server is killed."""
+    """Returns a shop after `count` requests on a disk in memory. Its server has been killed."""
     shop = Shop(Server(programs.program, memory / "shop.db", free_port()), cards, Machines(programs.machines, cards))
     shop.stock()
     rates = []
     for _ in range(0, count, STEP):
         shop.ready([])
         rates.append(shop.make(max(MACHINES))[0].rate)
-    ends = f"{rates[0]:.0f} a second the first {STEP}, {rates[-1]:.0f} the last"
+    ends = f"{rates[0]:.0f} per second for the first {STEP}, {rates[-1]:.0f} for the last"
     peak = f"{shop.batches} batches of {shop.size} bytes; peak {shop.server.peak() >> 20} MiB"
     print(f"{count} requests on a disk in memory: {ends}; {peak}", flush=True)
     shop.server.kill()
@@ -353,17 +355,17 @@ def over_file(programs: argparse.Namespace, folder: pathlib.Path, count: int, ca
 
 def start_on_sessions(program: str, folder: pathlib.Path) -> None:
     database = folder / "sessions.db"
-    make(database, rows(all_good(Size(98, 1))), SHAPES["our own tables"])
+    make(database, rows(all_good(Size(98, 1))), SHAPES["current tables"])
     link = sqlite3.connect(database)
     begun = time.process_time()
     if link.execute("PRAGMA integrity_check").fetchall() != [("ok",)] or link.execute("PRAGMA foreign_key_check").fetchall():
-        sys.exit("sqlite3 finds the file damaged")
+        sys.exit("sqlite3 reports damage")
     tested = time.process_time() - begun
     link.close()
     server = Server(program, database, free_port(), wait=False)
     took = server.listen()
     cost, peak = server.processor(), server.peak() >> 20
-    times = f"{took:.2f} s, {cost:.2f} s of the processor, {cost / tested:.1f} times sqlite3's tests"
+    times = f"{took:.2f} s, {cost:.2f} s of processor time, {cost / tested:.1f} times that of sqlite3's checks"
     print(f"start on 100,352 sessions, {size_of(database)}: {times}; peak {peak} MiB", flush=True)
     server.kill()
 
@@ -383,7 +385,7 @@ def main() -> None:
     given = words.parse_args()
     print(f"load of the machine {', '.join(f'{load:.1f}' for load in os.getloadavg())}, {os.cpu_count()} processors")
     names = ("p50", "p99", "cpu", *KINDS)
-    columns = f"{'requests':>10}{'machines':>9}{'':7}{'a second':>9}{'ours':>7}"
+    columns = f"{'requests':>10}{'machines':>9}{'':7}{'per s':>9}{'ours':>7}"
     columns += "".join(f"{name.split()[0]:>9}" for name in names)
     with tempfile.TemporaryDirectory(dir=given.folder) as folder:
         start_on_sessions(given.program, pathlib.Path(folder))

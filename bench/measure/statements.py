@@ -1,14 +1,17 @@
 #!/usr/bin/env python3
-"""Counts the statements of SQL that `persod serve` runs for an opening, an answer, a last answer
-and an import, each by its text. It takes some seconds, and needs gdb. Linux on x86-64 alone.
+"""Counts the SQL statements that `persod serve` executes for each kind of request.
 
     bench/run statements
 
-PROGRAM serves a new file under gdb, which stops it where the kit's `sqlite` is about to run a
-statement: its text is what one of the registers points at. So the program is the one that is
-used, and a statement that was prepared counts whenever it runs. What is printed is of one arrival
-each. An answer goes on within its segment, or with the next. The batch has two cards of
-make_batch.py, and a record and a grouping are added for each row of its file.
+Requires gdb, and Linux on x86-64. Takes a few seconds.
+
+The server runs under gdb, which stops it whenever the crate `sqlite` of the toolchain is about
+to execute a statement. One of the registers points to the text of the statement. The program is
+therefore the real one, and a prepared statement counts each time it is executed.
+
+The counts are for one request each: an opening, an answer within its segment, an answer that
+begins the next segment, a last answer, and an import. The batch has two cards of make_batch.py.
+An import adds a record and a grouping for each row of its file.
 """
 import json
 import pathlib
@@ -24,12 +27,12 @@ from served import Server, exchange, free_port, imported, parts, request
 
 OPENING, ANSWER, NEXT, LAST, IMPORT = "opening", "answer", "next", "last", "import"
 CARDS = 2
-# Where a statement is looked up and its values are bound, each time that it runs.
+# The function that looks up a statement and binds its values, before each execution.
 RUNS = "sqlite::connection::Connection::bind::<"
-# Where a transaction that changed something is committed.
+# The function that commits a transaction with changes.
 COMMITS = "sqlite_pager::pager::Pager::commit::<"
 COMMIT = "(a commit)"
-# What gdb's own Python runs: it writes a line at each stop.
+# Runs in gdb's own Python, and writes a line at each stop.
 WATCHER = r"""
 import gdb, re
 VERBS = re.compile(rb"(SELECT|INSERT|UPDATE|DELETE|BEGIN|COMMIT|ROLLBACK|CREATE|DROP|PRAGMA)\b")
@@ -46,13 +49,13 @@ def number(address):
     return int.from_bytes(read(address, 8), "little")
 
 def text():
-    '''Of a pair of a place and a length, in registers or behind one.'''
+    '''Returns a text whose address and length are in two registers, or in memory at a register.'''
     values = [int(gdb.parse_and_eval(f"(unsigned long)${name}")) for name in REGISTERS]
     pairs = [*zip(values, values[1:]), *((number(it), number(it + 8)) for it in values)]
     for place, size in pairs:
         if 4 <= size < 4096 and VERBS.match(read(place, size)):
             return read(place, size).decode()
-    return "(a text that was not found)"
+    return "(text not found)"
 
 class Stop(gdb.Breakpoint):
     def __init__(self, place, line):
@@ -73,7 +76,7 @@ gdb.execute("continue")
 
 
 class Watched:
-    """A server under gdb, and the statements that it ran."""
+    """A server under gdb, and the statements that it executed."""
 
     def __init__(self, program: str, folder: pathlib.Path) -> None:
         self.server = Server(program, folder / "shop.db", free_port())
@@ -86,10 +89,10 @@ class Watched:
         self.gdb = subprocess.Popen(words, stdout=subprocess.DEVNULL, stderr=subprocess.DEVNULL)
         while self.lines.readline() != "ready\n":
             if self.gdb.poll() is not None:
-                sys.exit("gdb does not watch the server")
+                sys.exit("gdb can't be attached to the server")
 
     def places(self, program: str) -> dict[str, list[int]]:
-        """Where the program's functions stand in memory."""
+        """Returns the addresses of the program's functions in memory."""
         maps = pathlib.Path(f"/proc/{self.server.process.pid}/maps").read_text()
         base = int(maps.split("-")[0], 16)
         listed = subprocess.run(["nm", program], capture_output=True, check=True, text=True).stdout
@@ -112,7 +115,7 @@ class Watched:
         return self.ask(request("m1", self.number, **members))
 
     def ran(self) -> Counter[str]:
-        """What it ran since this was called last."""
+        """Returns the statements executed since the last call."""
         return Counter(line.rstrip("\n") for line in self.lines.readlines())
 
     def end(self) -> None:
@@ -127,7 +130,7 @@ def batch_file() -> bytes:
 
 
 def counted(server: Watched) -> dict[str, Counter[str]]:
-    """What each arrival ran, of a whole card."""
+    """Returns the statements of each kind of request while a card is made."""
     server.asked(do="product", product="P1", max=255, low=0, check=False)
     server.asked(do="lot", lot="L1", product="P1", first=0, count=1000)
     server.ran()
@@ -144,7 +147,8 @@ def counted(server: Watched) -> dict[str, Counter[str]]:
 
 
 def kind_of(reply: dict[str, Any], its: Counter[str], counts: dict[str, Counter[str]]) -> str:
-    """The first answer goes on within its segment, and so does each that runs the same."""
+    """Returns the kind of a request. The first answer is within its segment, as is each answer with
+    the same statements."""
     if reply["result"] == "good":
         return LAST
     return ANSWER if its == counts.get(ANSWER, its) else NEXT

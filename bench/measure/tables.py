@@ -1,22 +1,26 @@
 #!/usr/bin/env python3
-"""Measures durable commits over a file: what answers, openings and imports take; on a file with
-few sessions and on one with many; beside batch files of some sizes, since an opening and the end
-of a card move their batch's counters, which stand in one row with the file's bytes; and with a
-record of 16 MB. Linux alone. It takes about three minutes.
+"""Measures durable commits, and their SQL statements with two SQLite implementations.
 
     bench/run tables [FOLDER]
 
-The files lie in FOLDER, which has to be on a disk, since a commit waits for a sync of it. They are
-removed.
+Requires Linux, and takes about three minutes. The database files are in FOLDER, and are removed afterwards. FOLDER must be on a disk, because a
+commit waits for a sync.
 
-`measure_tables` serves what it reads over the tables of a new file, a part at a time, and prints
-the time of each part. So its times hold the reading of a message and the writing of its reply,
-but no pipe. Beside it stand two programs that run only what the tables need for each arrival, in
-one transaction (arrivals.py): `measure_kit` by the SQLite that we use, which no server over it
-can beat, and `same` by C's (WAL, synchronous FULL). All three take turns, in chunks of equal
-messages, and what is printed is the median chunk; processor time is of all chunks. In the end the
-rows of all files are the same, which is tested, and each file that ours wrote is tested whole by
-C's SQLite.
+The script measures answers, openings and imports:
+
+- on a file with few sessions and on one with many
+- with batch files of several sizes. An opening and a last answer change the counters of their
+  batch, which are in the same row as the bytes of the batch file
+- with a record of 16 MB
+
+`measure_tables` serves messages on the tables of a new file, one part at a time, and prints the time of each part. Its times include reading a
+message and writing its response, but no pipe. For comparison, two programs execute only the SQL statements of each request, in one transaction
+(arrivals.py). `measure_kit` uses the toolchain's crate `sqlite`, so no server that uses the crate can be faster. `same` uses the SQLite library
+(WAL, synchronous FULL).
+
+The three programs take turns, in chunks of equal messages. The script prints the median chunk, and the processor time of all chunks. At the end
+it checks that all files have the same rows, and the SQLite library checks each file that `measure_tables` wrote. Exit status: 1 if a check
+fails.
 """
 import json
 import os
@@ -55,7 +59,7 @@ ANSWERS = 40
 
 
 def batch_file(records: int, rows: int, size: int) -> bytes:
-    """A file of so many records and rows, with so many data bytes in each grouping. The rows of a record follow each other."""
+    """Returns a batch file of `records` records and `rows` rows, with `size` data bytes in each grouping. The rows of a record are adjacent."""
     lines = [HEADER]
     each = rows // records
     for row in range(rows):
@@ -92,33 +96,33 @@ def answer_body(session: int, index: int) -> str:
     return f'{{"do":"answer","session":{session},"index":{index},"sw":"9000"}}'
 
 
-# ---- ours
+# ---- measure_tables
 
 
 class Ours:
-    """The program `measure_tables`, over a new file."""
+    """The program `measure_tables` on a new file."""
 
     def __init__(self, database: pathlib.Path) -> None:
         self.database = database
         self.program = subprocess.Popen([MEASURE, database], stdin=subprocess.PIPE, stdout=subprocess.PIPE)
 
     def processor(self) -> float:
-        """The processor time so far, in seconds."""
+        """Returns the processor time used so far, in seconds."""
         return int(pathlib.Path(f"/proc/{self.program.pid}/schedstat").read_text().split()[0]) / 1e9
 
     def serve(self, messages: list[bytes]) -> float:
-        """Serves these, which are all accepted, and answers how many seconds that took. Messages have no bytes 0 and 1."""
+        """Serves the messages, which must all be accepted, and returns the time in seconds. Messages have no bytes 0 and 1."""
         assert self.program.stdin and self.program.stdout
         self.program.stdin.write(b"\0".join(messages) + b"\1")
         self.program.stdin.flush()
         words = self.program.stdout.readline().decode().split()
         wanted = ["served", str(len(messages)), "accepted", str(len(messages)), "microseconds"]
         if words[:5] != wanted:
-            sys.exit(f"measure_tables: {' '.join(words)}, and not {len(messages)} accepted")
+            sys.exit(f"measure_tables: {' '.join(words)}, expected {len(messages)} accepted")
         return int(words[5]) / 1e6
 
     def copy(self, target: pathlib.Path) -> None:
-        """Copies the file and its log, while no message is served."""
+        """Copies the file and its WAL while no message is served."""
         for end in ("", "-wal"):
             shutil.copyfile(f"{self.database}{end}", f"{target}{end}")
 
@@ -133,15 +137,15 @@ class Ours:
 def test_file(database: pathlib.Path) -> None:
     conn = sqlite3.connect(database)
     if conn.execute("PRAGMA integrity_check").fetchall() != [("ok",)] or conn.execute("PRAGMA foreign_key_check").fetchall():
-        sys.exit(f"{database}: sqlite3 finds it damaged")
+        sys.exit(f"{database}: sqlite3 reports damage")
     conn.close()
 
 
-# ---- beside it
+# ---- the programs to compare with
 
 
 class Twins:
-    """The kit's floor and C's SQLite, each over a copy of the file."""
+    """`measure_kit` and `same`, each on a copy of the file."""
 
     def __init__(self, ours: Ours, folder: pathlib.Path) -> None:
         self.folder = folder
@@ -149,7 +153,7 @@ class Twins:
         self.same = self.over_copy(ours, "same", SAME)
 
     def over_copy(self, ours: Ours, name: str, program: str) -> Runner:
-        """Both begin with an empty log."""
+        """Starts a program on a copy with an empty WAL."""
         database = self.folder / f"{name}.db"
         ours.copy(database)
         conn = sqlite3.connect(database)
@@ -158,7 +162,7 @@ class Twins:
         return Runner(program, database, self.folder / "texts")
 
     def end(self, ours: Ours) -> None:
-        """Ends both, and tests that they hold what ours does."""
+        """Ends both programs, and checks that their files have the same rows as ours."""
         ours.copy(self.folder / "after.db")
         for name, runner in (("kit", self.kit), ("same", self.same)):
             runner.end()
@@ -177,7 +181,7 @@ def opened(client: str, card: Card, session: int, blank: int) -> bytes:
 
 
 def answered(client: str, card: Card, session: int, index: int, command: str) -> bytes:
-    """The word for a command, behind which this one is handed out: a piece of the first segment."""
+    """Returns the statements for a status word after which `command`, a piece of the first segment, is returned."""
     body = reply_body(command=command, index=index + 1, result="command", session=session)
     kept = Kept(client, 2 + index, b"\0" + answer_body(session, index).encode(), body)
     cursor = (0, 0, 255 * index, index + 1)
@@ -185,7 +189,7 @@ def answered(client: str, card: Card, session: int, index: int, command: str) ->
 
 
 def ended(client: str, card: Card, session: int) -> bytes:
-    """The word for the second command of a card that has two."""
+    """Returns the statements for the last status word of a card with two commands."""
     ask = b"\0" + answer_body(session, 1).encode()
     kept = Kept(client, 3, ask, reply_body(result="good", session=session))
     return arrivals.last_answer(kept, card, session, "P1", 1, (1, 0, 0, 0))
@@ -200,22 +204,22 @@ def taken(number: int, id_: int, batch: str, raw: bytes) -> bytes:
 
 
 def test_equal(ours: pathlib.Path, theirs: pathlib.Path) -> None:
-    """The rows of both files are the same, rowids too."""
+    """Checks that both files have the same rows and rowids."""
     one, other = sqlite3.connect(ours), sqlite3.connect(theirs)
     for (table,) in one.execute("SELECT name FROM sqlite_schema WHERE type = 'table'").fetchall():
         query = f"SELECT rowid, * FROM {table} ORDER BY rowid"
         for mine, their in zip(one.execute(query), other.execute(query), strict=True):
             if mine != their:
-                sys.exit(f"{table} has other rows:\n{str(mine)[:500]}\n{str(their)[:500]}")
+                sys.exit(f"the rows of {table} differ:\n{str(mine)[:500]}\n{str(their)[:500]}")
     one.close()
     other.close()
 
 
-# ---- both, in turn
+# ---- taking turns
 
 
 class Times(NamedTuple):
-    """Seconds for each message: ours, the kit's and C's; and the processor's in the same order."""
+    """The seconds of a message for each of the three programs, and its processor seconds in the same order."""
 
     ours: float
     kit: float
@@ -228,7 +232,7 @@ class Times(NamedTuple):
 def in_turn(
     ours: Ours, twins: Twins, messages: list[bytes], same: list[bytes], chunk: int
 ) -> Times:
-    """Serves the messages, and runs the same by both twins, each in chunks that take turns."""
+    """Serves the messages, and executes their statements with both other programs. All take turns in chunks."""
     runners = [twins.kit, twins.same]
     begun = [it.processor() for it in (ours, *runners)]
     times = []
@@ -246,7 +250,7 @@ def heading(what: str) -> None:
 
 
 def print_times(name: str, times: Times, shown: Callable[[float], float], digits: int) -> None:
-    """Parts are those of the kit's and of C's rate, and then of C's by the processor's time."""
+    """Prints the times. The ratios are those of our rate to the rates of measure_kit and same, and then the ratio of processor times to same."""
     columns = "".join(f"{shown(seconds):9.{digits}f}" for seconds in times[:3])
     parts = "".join(f"{theirs / times.ours:9.2f}" for theirs in times[1:3])
     spent = "".join(f"{1e3 * seconds:9.2f}" for seconds in times[3:])
@@ -263,11 +267,11 @@ def print_millis(name: str, times: Times) -> None:
 
 
 def print_disk(folder: pathlib.Path) -> None:
-    """How long the disk takes to write 4 KiB and sync them, at the end of a file and within it."""
+    """Prints the time to write and sync 4 KiB, at the end of a file and within it."""
     where = subprocess.run(["df", "--output=source,fstype,target", folder], capture_output=True, check=True, text=True).stdout
     source, kind, target = where.splitlines()[1].split()
     if kind in ("tmpfs", "ramfs"):
-        sys.exit(f"{folder} is no disk")
+        sys.exit(f"{folder} isn't on a disk")
     handle = os.open(folder / "probe", os.O_RDWR | os.O_CREAT)
     synced = []
     for place in [*range(300)] * 2:
@@ -277,10 +281,10 @@ def print_disk(folder: pathlib.Path) -> None:
         synced.append(time.perf_counter() - start)
     os.close(handle)
     grown, within = (1e3 * statistics.median(part) for part in (synced[:300], synced[300:]))
-    print(f"{folder} on {source} ({kind}, {target}): 4 KiB with fdatasync take {grown:.2f} ms behind a file's end, {within:.2f} within")
+    print(f"{folder} on {source} ({kind}, {target}): 4 KiB with fdatasync take {grown:.2f} ms at the end of a file, {within:.2f} ms within it")
 
 
-# ---- few sessions and many
+# ---- few and many sessions
 
 
 class Kind(NamedTuple):
@@ -291,7 +295,7 @@ class Kind(NamedTuple):
 
 
 def others(sessions: int) -> list[Kind]:
-    """Messages of all other kinds, on a file where batch M ran, whose last cards run yet. They are in this order."""
+    """Returns messages of all other kinds, in the order in which they must be sent. The last cards of batch M must still be running."""
     span = range(OTHERS)
     first, second = STEP - 2 * OTHERS, STEP - OTHERS
     done = [
@@ -314,7 +318,7 @@ def others(sessions: int) -> list[Kind]:
 
 
 def base_messages(sessions: int) -> Iterable[list[bytes]]:
-    """Batches of cards, each opened by a machine of its own; then batch M."""
+    """Yields the messages that import batches of cards, each opened by its own machine, and then batch M."""
     yield set_up()
     raw = batch_file(CARDS, CARDS, 2)
     for batch in range(sessions // CARDS):
@@ -324,7 +328,7 @@ def base_messages(sessions: int) -> Iterable[list[bytes]]:
 
 
 class Took(NamedTuple):
-    """What a message of a kind took, and of the processor, in seconds."""
+    """The seconds and the processor seconds of a message of one kind."""
 
     name: str
     seconds: float
@@ -338,13 +342,13 @@ def serve_kind(ours: Ours, kind: Kind) -> Took:
 
 
 def measure_both(folder: pathlib.Path, sessions: int) -> list[Took]:
-    """Prints what commits take where so many sessions were opened before, and answers what all messages take."""
+    """Prints the times of commits after `sessions` sessions were opened, and returns the times of all kinds of messages."""
     folder.mkdir()
     ours = Ours(folder / "ours.db")
     spent = sum(ours.serve(messages) for messages in base_messages(sessions))
     twins = Twins(ours, folder)
     size = (folder / "same.db").stat().st_size / 1e6
-    heading(f"commits in a second, {sessions} sessions before")
+    heading(f"commits per second, {sessions} earlier sessions")
     tables = {
         "open": opens_in_turn(ours, twins, sessions),
         "answer": answers_in_turn(ours, twins, sessions),
@@ -354,7 +358,7 @@ def measure_both(folder: pathlib.Path, sessions: int) -> list[Took]:
     for name, times in tables.items():
         print_rates(name, times)
     twins.end(ours)
-    end = f"a file of {size:.0f} MB, made in {spent:.0f} s; the rows of all files are the same"
+    end = f"a file of {size:.0f} MB, made in {spent:.0f} s; all files have the same rows"
     print(f"({end})", flush=True)
     took = [Took(name, times.ours, times.processor) for name, times in tables.items()]
     took += [serve_kind(ours, kind) for kind in others(sessions)]
@@ -363,12 +367,12 @@ def measure_both(folder: pathlib.Path, sessions: int) -> list[Took]:
 
 
 def last_batch(sessions: int) -> int:
-    """The id of batch M, behind those whose cards were opened before."""
+    """Returns the id of batch M, which follows the batches whose cards were opened before."""
     return sessions // CARDS + 1
 
 
 def card_of(sessions: int, place: int) -> tuple[str, Card, int]:
-    """A card of batch M: its machine, its record and its session."""
+    """Returns the machine, the record and the session of a card of batch M."""
     return f"n{place}", Card(last_batch(sessions), "M", place), sessions + place + 1
 
 
@@ -402,18 +406,18 @@ def imports_in_turn(ours: Ours, twins: Twins, sessions: int) -> Times:
 def print_growth(folder: pathlib.Path) -> None:
     few, many = (measure_both(folder / str(sessions), sessions) for sessions in (FEW, MANY))
     columns = "".join(f"{name:>9}" for name in (FEW, MANY, "growth", "cpu", "cpu", "growth"))
-    print(f"\n{'milliseconds a message, by sessions before':44}{columns}")
+    print(f"\n{'milliseconds per message, by earlier sessions':44}{columns}")
     for before, after in zip(few, many):
         wall = f"{1e3 * before.seconds:9.3f}{1e3 * after.seconds:9.3f}{after.seconds / before.seconds:9.2f}"
         processor = f"{1e3 * before.processor:9.3f}{1e3 * after.processor:9.3f}{after.processor / before.processor:9.2f}"
         print(f"{before.name:44}{wall}{processor}")
 
 
-# ---- counters beside a batch file
+# ---- counters next to a batch file
 
 
 class File(NamedTuple):
-    """A batch file, and how many cards of it are opened, in chunks of so many."""
+    """A batch file: the data bytes of a grouping, the number of cards to open, and the size of a chunk."""
 
     name: str
     data: int
@@ -425,40 +429,40 @@ FILES = [File("0.2 MB", 2, 100, 10), File("0.6 MB", 60, 100, 10), File("16 MB", 
 
 
 def measure_file(folder: pathlib.Path, file: File) -> None:
-    """Prints what openings and answers take beside a batch file of 1,024 records and 4,096 rows."""
+    """Prints the times of openings and answers for a batch file of 1,024 records and 4,096 rows."""
     raw = batch_file(1_024, ROWS, file.data)
     raw += b"\n" * (MOST_FILE - len(raw)) if file.name == "16 MB" else b""
     ours, twins = beside_file(folder, raw)
     opens = [post(f"n{n}", 1, open_body("M", n)) for n in range(file.cards)]
     same = [opened(*card_of(0, n), n) for n in range(file.cards)]
-    print_millis("open, which moves counters", in_turn(ours, twins, opens, same, file.chunk))
+    print_millis("open, which changes counters", in_turn(ours, twins, opens, same, file.chunk))
     answers = [post(f"n{n}", 2, answer_body(n + 1, 0)) for n in range(file.cards)]
     same = [answered(*card_of(0, n), 0, command_of(raw, n)) for n in range(file.cards)]
-    print_millis("answer, which moves none", in_turn(ours, twins, answers, same, file.chunk))
+    print_millis("answer, which changes none", in_turn(ours, twins, answers, same, file.chunk))
     twins.end(ours)
     ours.end()
 
 
 def beside_file(folder: pathlib.Path, raw: bytes) -> tuple[Ours, Twins]:
-    """Imports a file as batch M, whose time is printed."""
+    """Imports a file as batch M, and prints the time."""
     folder.mkdir()
     ours = Ours(folder / "ours.db")
     ours.serve(set_up())
     twins = Twins(ours, folder)
-    heading(f"milliseconds beside a file of {len(raw)} bytes")
+    heading(f"milliseconds with a file of {len(raw)} bytes")
     asked, same = [imported(3, "M", raw)], [taken(3, 1, "M", raw)]
     print_millis("its import", in_turn(ours, twins, asked, same, 1))
     return ours, twins
 
 
 def command_of(raw: bytes, card: int) -> str:
-    """The first STORE DATA of a card with four rows of one rank."""
+    """Returns the first STORE DATA of a card with four rows of one rank."""
     lines = raw.decode().split()[1 + 4 * card:5 + 4 * card]
     return piece_of("".join(line.rpartition(",")[2] for line in lines), 0)
 
 
 def piece_of(sent: str, block: int) -> str:
-    """A STORE DATA of a segment."""
+    """Returns the STORE DATA of a segment with this block number."""
     piece = sent[510 * block:510 * (block + 1)]
     is_last = len(sent) <= 510 * (block + 1)
     return f"80E2{'80' if is_last else '00'}{block:02X}{len(piece) // 2:02X}{piece}"
@@ -468,7 +472,7 @@ def piece_of(sent: str, block: int) -> str:
 
 
 def measure_record(folder: pathlib.Path) -> None:
-    """Prints what an opening and answers take where one record has all rows, each application 16."""
+    """Prints the times of an opening and of answers for a record with all rows, 16 in each application."""
     raw = record_file()
     ours, twins = beside_file(folder, raw)
     opening = [post("n0", 1, open_body("M", 0))], [opened(*card_of(0, 0), 0)]

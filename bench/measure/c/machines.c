@@ -1,17 +1,17 @@
-/* Machines in front of a server, each a thread that sends its next message once the last is
-   answered. A connection carries one message. Threads of Python take turns, so that with several
-   of them a fast server waits for its clients.
+/* Simulates the machines of a server. Each machine is a thread that sends its next message when it
+   has the response to the last one. Each message has its own connection. The machines aren't Python
+   threads, because these take turns, so a fast server would wait for its clients.
 
-     machines CARDS      takes what standard input asks for:
+     machines CARDS      executes the lines on standard input:
 
-       cards PORT MACHINES COUNT    makes whole cards by so many requests, out of the batches B1,
-                                    B2, .. of so many cards each; a machine goes on with its card
-       again PORT MACHINES COUNT    sends so many messages: behind this line come for each machine
-                                    their number, and for each its length and its bytes
+       cards PORT MACHINES COUNT    sends COUNT requests that make cards of the batches B1, B2, ..
+                                    with CARDS cards each. A machine continues with its card
+       again PORT MACHINES COUNT    sends COUNT messages. The line is followed by the number of
+                                    messages of each machine, and the length and bytes of each
 
-   For each line it prints the nanoseconds of the whole, and what each machine asked: the number of
-   its messages, and for each the nanoseconds until the end of the reply, both lengths, the message
-   and the reply. All but the lines are numbers of eight bytes, as the processor has them. */
+   For each line it prints the total time in nanoseconds, and for each machine the number of its
+   messages. For each message it prints the nanoseconds until the end of the response, the lengths
+   of the message and the response, and both. Numbers have eight bytes in native byte order. */
 #include "need.h"
 #include <arpa/inet.h>
 #include <netinet/in.h>
@@ -34,10 +34,10 @@ struct bytes {
 struct machine {
   pthread_t thread;
   long number, blank, session, index;
-  int runs;                           /* a session, whose next answer is of `index` */
-  uint64_t count;                     /* of its messages */
-  struct bytes asked;                 /* those that are to be sent again */
-  struct bytes told;                  /* what is printed */
+  int runs;                           /* has a session, whose next answer is `index` */
+  uint64_t count;                     /* the number of its messages */
+  struct bytes asked;                 /* the messages to send again */
+  struct bytes told;                  /* the output */
 };
 
 static struct machine machines[MOST_MACHINES];
@@ -61,7 +61,7 @@ static uint64_t now(void) {
   return (uint64_t)it.tv_sec * 1000000000 + (uint64_t)it.tv_nsec;
 }
 
-/* Sends a message on a connection of its own, adds the reply, and answers its length. */
+/* Sends a message on a new connection, appends the response to `reply`, and returns its length. */
 static uint64_t exchange(const char *message, size_t size, struct bytes *reply) {
   struct sockaddr_in at = {.sin_family = AF_INET,
                            .sin_port = htons((unsigned short)port),
@@ -88,7 +88,7 @@ static uint64_t exchange(const char *message, size_t size, struct bytes *reply) 
   return whole;
 }
 
-/* Exchanges a message, keeps what is printed of it, and answers where its reply begins. */
+/* Sends a message, appends the output for it, and returns the position of its response. */
 static size_t told(struct machine *its, const char *message, uint64_t size) {
   uint64_t numbers[3] = {0, size, 0};
   size_t head = its->told.size;
@@ -178,7 +178,7 @@ static void read_asked(struct machine *its) {
   }
 }
 
-/* ---- both */
+/* ---- running */
 
 static void print_number(uint64_t number) { fwrite(&number, sizeof number, 1, stdout); }
 

@@ -1,4 +1,4 @@
-/* Stops a program of this folder where something that it needs isn't so. */
+/* Ends the program with status 3 if a condition doesn't hold. */
 #include <stdio.h>
 #include <stdlib.h>
 

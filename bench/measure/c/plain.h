@@ -1,6 +1,6 @@
-/* What the plain servers of this folder share: they read a message, answer with as many bytes as a
-   command takes, and keep what they keep by C's SQLite (WAL, synchronous FULL) on a connection of
-   their own. They serve one connection after the other. */
+/* Shared by the plain servers in this folder. They read a message, store it with the SQLite library
+   (WAL, synchronous FULL), and respond with as many bytes as a reply with a command. They serve one
+   connection at a time. */
 #include "need.h"
 #include <arpa/inet.h>
 #include <netinet/in.h>
@@ -17,7 +17,7 @@ static const char reply[] =
     "{\"command\":\"80E28000050101027000\",\"index\":1,"
     "\"result\":\"command\",\"session\":100000}\n";
 
-/* Reads a whole message, behind which a byte 0 is put, and answers where its body begins, or 0. */
+/* Reads a complete message, appends a byte 0, and returns the position of its body, or 0. */
 static size_t read_message(int peer, size_t *size) {
   size_t filled = 0, body = 0, length = 0;
   for (;;) {
@@ -54,7 +54,7 @@ static sqlite3 *opened(const char *path, const char *more) {
   return link;
 }
 
-/* Listens on a port of 127.0.0.1, and says so. */
+/* Listens on a port of 127.0.0.1, and prints `listening`. */
 static int listening(int port) {
   struct sockaddr_in at = {.sin_family = AF_INET,
                            .sin_port = htons((unsigned short)port),
@@ -69,7 +69,7 @@ static int listening(int port) {
   return listener;
 }
 
-/* Serves each message: `keep` is given its body and the body's length. */
+/* Serves all messages. `keep` gets the body of each and its length. */
 static void serve(int listener, void (*keep)(char *body, size_t length)) {
   for (;;) {
     int peer = accept(listener, 0, 0);

@@ -1,9 +1,10 @@
-/* A second plain server to measure against: it runs over our own tables, by C's SQLite, the
-   statements that an arrival asks for, prepared once. It decides nothing. programs/measure_kit.txt
-   does the same by the SQLite that we use, and says how arrivals are written.
+/* Executes the SQL statements of arrivals on the tables of persod with the SQLite library.
 
-     same FILE TEXTS         runs arrivals of standard input, and prints each one's nanoseconds
-     same FILE TEXTS PORT    serves arrivals, each a message's body, until it is killed */
+     same FILE TEXTS         runs the arrivals on standard input, and prints the nanoseconds of each
+     same FILE TEXTS PORT    serves arrivals in the bodies of messages, until it is killed
+
+   The statements are prepared once. The program decides nothing. programs/measure_kit.txt does the
+   same with the toolchain's crate `sqlite`, and describes the format of arrivals. */
 #include "plain.h"
 #include <time.h>
 
@@ -15,7 +16,7 @@ struct value {
 };
 
 struct asked {
-  size_t text, first, count; /* its values are so many from the first on */
+  size_t text, first, count; /* its values are `count` values from `first` on */
 };
 
 static sqlite3_stmt **texts;
@@ -46,7 +47,7 @@ static void prepare_all(sqlite3 *link, const char *path) {
 
 static int digit(char it) { return it <= '9' ? it - '0' : (it | 32) - 'a' + 10; }
 
-/* The value that a word spells, whose bytes are put in its place. */
+/* Returns the value that a word denotes. Its bytes overwrite the word. */
 static struct value value_of(char *word) {
   struct value it = {.kind = word[0], .bytes = word};
   if (it.kind == 'i') {
@@ -59,7 +60,7 @@ static struct value value_of(char *word) {
   return it;
 }
 
-/* Reads an arrival, which it writes over. */
+/* Reads an arrival, and overwrites it. */
 static void read_arrival(char *arrival) {
   char *rest, *word_rest;
   value_count = asked_count = 0;
@@ -77,7 +78,7 @@ static void read_arrival(char *arrival) {
   }
 }
 
-/* Takes each value of a row as a program would. */
+/* Reads each value of a row, as a real program does. */
 static void take_row(sqlite3_stmt *statement) {
   static volatile sqlite3_int64 taken;
   for (int at = sqlite3_column_count(statement); at-- > 0;) {

@@ -1,5 +1,5 @@
-/* A plain server to measure against: of each message it keeps the target and the body in one small
-   transaction of C's SQLite.
+/* A plain server for comparisons. It stores the target and the body of each message in one small
+   transaction with the SQLite library.
    usage: yardstick FILE PORT */
 #include "plain.h"
 

@@ -1,6 +1,7 @@
-//! Prints the commands of a batch as `persod plan` does with no option, as one would write it in plain Rust: the
-//! measure of bench/run instructions. It codes hexadecimal digits many at once, as ours does, where the crate `hex`
-//! takes one after the other. It tests the fields' forms, and none of a record's faults.
+//! Prints the commands of a batch file like `persod plan` without options, written in plain Rust.
+//!
+//! `bench/run instructions` compares both programs. Like persod, this program encodes many hexadecimal digits at a
+//! time, whereas the crate `hex` encodes one at a time. It checks the form of the fields, but not the faults of records.
 use std::collections::HashMap;
 use std::error::Error;
 use std::io::{self, Read, Write};
@@ -36,7 +37,7 @@ fn main() -> Result<(), Box<dyn Error>> {
     Ok(io::stdout().lock().write_all(&text)?)
 }
 
-// The records of a batch by first appearance, and each one's applications by theirs.
+// Returns the records of a batch, and the applications of each record, in the order of their first rows.
 fn records(raw: &[u8]) -> Result<Vec<Record>, Box<dyn Error>> {
     let mut records: Vec<Record> = Vec::new();
     let mut places = HashMap::new();
@@ -44,7 +45,7 @@ fn records(raw: &[u8]) -> Result<Vec<Record>, Box<dyn Error>> {
     let mut fields = csv::ByteRecord::new();
     while reader.read_byte_record(&mut fields)? {
         if fields.len() != 6 {
-            return Err("six fields are wanted".into());
+            return Err("a row must have six fields".into());
         }
         let name = std::str::from_utf8(&fields[0])?;
         let place = *places.entry(name.to_owned()).or_insert(records.len());
@@ -75,7 +76,7 @@ fn records(raw: &[u8]) -> Result<Vec<Record>, Box<dyn Error>> {
 
 fn bytes_of(field: &[u8]) -> Result<Vec<u8>, Box<dyn Error>> {
     if field.len() % 2 != 0 {
-        return Err("an even number of digits is wanted".into());
+        return Err("the number of digits must be even".into());
     }
     let mut bytes = vec![0; field.len() / 2];
     let mut all = 0;
@@ -85,12 +86,12 @@ fn bytes_of(field: &[u8]) -> Result<Vec<u8>, Box<dyn Error>> {
         *byte = high << 4 | low & 15;
     }
     if all > 15 {
-        return Err("hexadecimal digits are wanted".into());
+        return Err("the digits must be hexadecimal".into());
     }
     Ok(bytes)
 }
 
-// The value of a digit, or 255 of another byte: arithmetic and no table, so that many are taken at once.
+// Returns the value of a digit, or 255 for another byte. Arithmetic instead of a table lets the compiler use vector instructions.
 fn digit(c: u8) -> u8 {
     match c {
         b'0'..=b'9' => c - b'0',
@@ -105,7 +106,7 @@ fn enciphered(field: &[u8]) -> Result<u8, Box<dyn Error>> {
         b"0" => Ok(0),
         b"1" => Ok(0x60),
         b"2" => Ok(0x20),
-        _ => Err("this mark is 0, 1 or 2".into()),
+        _ => Err("enc must be 0, 1 or 2".into()),
     }
 }
 
@@ -113,7 +114,7 @@ fn tolerant(field: &[u8]) -> Result<bool, Box<dyn Error>> {
     match field {
         b"0" => Ok(false),
         b"1" => Ok(true),
-        _ => Err("this mark is 0 or 1".into()),
+        _ => Err("tol must be 0 or 1".into()),
     }
 }
 
