@@ -1,10 +1,11 @@
 #!/usr/bin/env python3
-"""Copies the file of `persod serve`, without its log, at the moment when `served N` is read.
+"""Copies the database file of `persod serve` without its WAL when the server prints `served N`.
 
     bench/run at_served [--rounds N]
 
-In each round three requests are answered, one of them an import of 100 KB. As soon as `served 3` comes the file alone is copied, and a server is started
-on the file. The copy is whole and has all replies so far; the server isn't refused, and it repeats the replies."""
+In each round the server answers three requests, one of them an import of 100 KB. As soon as it prints `served 3`, the script copies only the
+database file and starts another server on the original. The copy must be intact and have all replies so far. The other server must start and
+repeat the replies. Exit status: 1 if a check fails."""
 import argparse
 import pathlib
 import shutil
@@ -26,7 +27,8 @@ def messages_of(place: int) -> list[bytes]:
 
 
 def one_round(program: str, database: pathlib.Path, copy: pathlib.Path, place: int) -> tuple[list[bytes], str]:
-    """Makes the copy, and looks how the server ends and how the next one begins. The replies of this round, and how the next one was stopped."""
+    """Makes the copy, and checks the exit of the server and the start of the next one. Returns the replies of this round, and the output of the
+    next server if it didn't start."""
     server = Server(program, database, free_port(), 3)
     messages = messages_of(place)
     replies = [accepted(server.port, message) for message in messages]
@@ -39,7 +41,7 @@ def one_round(program: str, database: pathlib.Path, copy: pathlib.Path, place: i
         again.served()
     except Stopped as stop:
         return replies, str(stop)
-    expect("the first server's end", server.wait(), (0, ""))
+    expect("the first server's exit", server.wait(), (0, ""))
     return replies, ""
 
 
@@ -60,8 +62,8 @@ def main() -> None:
             came, stopped = one_round(given.program, database, copy, place)
             replies += [parts(reply) for reply in came]
             expect(f"the replies of copy {place}", kept(copy), replies)
-            expect(f"a start at the line of round {place}", stopped, "")
-    print(f"{given.rounds} copies at `served 3`, each whole and with all of its replies, up to {len(replies)}")
+            expect(f"a start at `served 3` in round {place}", stopped, "")
+    print(f"{given.rounds} copies at `served 3`, each intact and with all replies, up to {len(replies)}")
 
 
 if __name__ == "__main__":

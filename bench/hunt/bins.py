@@ -1,12 +1,12 @@
 #!/usr/bin/env python3
-"""Checks that each card goes where a table of docs/SHOP_FLOOR.md says, "Responses and cards".
+"""Checks the table "Responses and cards" of docs/SHOP_FLOOR.md with driver.py and the server.
 
     bench/run bins
 
 With bench/demo/driver.py, the script causes each refusal of an `open` and of an `answer`, a good
 card, a spoiled one, one without a status word, and a status 400. After each it compares three
-things with the row of the table: the place of the card, whether the machine continues, and whether
-the blank is charged.
+things with the row of the table: the place of the card, whether the machine continues, and
+whether the blank is charged. Exit status: 1 if one of them differs.
 """
 import json
 import pathlib
@@ -35,7 +35,7 @@ class Row(NamedTuple):
 
 
 def table() -> dict[tuple[str, str], Row]:
-    """The rows by request and by each code, status or word of the response."""
+    """Returns the rows by request and by each code, status or word of the response."""
     rows: dict[tuple[str, str], Row] = {}
     requests: list[str] = []
     page = (TOP / "docs" / "SHOP_FLOOR.md").read_text()
@@ -92,7 +92,7 @@ class Shop:
         return started
 
     def charged(self) -> int:
-        """The number of charged blanks."""
+        """Returns the number of charged blanks."""
         accounts = [accepted(self.port, get(f"/blanks/{product}")) for product in ("P1", "P2")]
         return sum(json.loads(account.split(b"\r\n\r\n")[1])["charged"] for account in accounts)
 
@@ -201,7 +201,7 @@ def main() -> None:
         answers(shop)
         strays(shop)
         server.kill()
-    print(f"{shop.seen} cards went where the table of SHOP_FLOOR.md sends them")
+    print(f"{shop.seen} cards, all as the table in SHOP_FLOOR.md says")
 
 
 if __name__ == "__main__":

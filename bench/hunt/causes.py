@@ -1,11 +1,12 @@
 #!/usr/bin/env python3
-"""Gives `persod serve` and `persod report` every kind of file that they refuse, and looks whether an event line names the cause.
+"""Checks the event line of `persod serve` and `persod report` for each kind of file that they refuse.
 
     bench/run causes
 
-Each file is a sound one with one change, or no file of ours at all. Both end with status 1 and the words `refused 81` or `refused 82`, nothing on standard
-output, and one event line with the cause; the file is as it was. Without PERSOD_LOG there is no line. As root, files without rights are tried as the user
-nobody. What `serve` makes of a missing and an empty file isn't refused, so these are tried by `report` alone."""
+Each file is a sound one with one change, or isn't a database of persod. Both commands must exit with status 1, print `refused 81` or `refused
+82`, nothing on standard output, and one event line with the cause. The file must be unchanged. Without PERSOD_LOG there must be no event line.
+As root, the script tries files without permissions as the user nobody. Missing and empty files are tried only with `report`, because `serve`
+accepts them. Exit status: 1 if a check fails."""
 import os
 import pathlib
 import shutil
@@ -25,7 +26,8 @@ Change = Callable[[pathlib.Path], None]
 
 
 class File(NamedTuple):
-    """What is refused: how a sound file is changed, the code, and what stands behind `cause=`, of `report` too if nothing else is said."""
+    """A file that is refused: its name, the change of a sound file, the code, and the text after `cause=`. `of_report` is the cause that `report`
+    prints, if it differs."""
 
     what: str
     change: Change
@@ -82,7 +84,7 @@ def text(database: pathlib.Path) -> None:
 
 
 def journal(database: pathlib.Path) -> None:
-    """What C's SQLite leaves that is stopped within a transaction."""
+    """Leaves the journal of an SQLite process that is killed within a transaction."""
     stopped = (
         "import os, sqlite3, sys\n"
         "link = sqlite3.connect(sys.argv[1], isolation_level=None)\n"
@@ -96,7 +98,7 @@ def journal(database: pathlib.Path) -> None:
 
 
 def broken(database: pathlib.Path) -> None:
-    """The pages behind the first hold something else."""
+    """Overwrites pages after the first."""
     with database.open("r+b") as file:
         file.seek(4096)
         file.write(b"\xa5" * 40_960)
@@ -123,12 +125,12 @@ NO_FILES = (
     File("an empty file", empty, 81, "empty", by_report_alone=True),
     File("no folder", no_folder, 81, "no-folder"),
     File("a folder", folder, 81, "folder"),
-    File("a link that leads nowhere", dead_link, 81, "special-file", of_report="no-file"),
-    File("a file with a further name", further_name, 81, "special-file"),
+    File("a dead link", dead_link, 81, "special-file", of_report="no-file"),
+    File("a file with a second hard link", further_name, 81, "special-file"),
     File("a pipe", pipe, 81, "special-file"),
-    File("a file that it may not read", rights(0o000, 0o777), 81, "no-right", as_nobody=True),
-    File("a file that it may not write", rights(0o444, 0o777), 81, "no-right", as_nobody=True),
-    File("a folder that it may not write", rights(0o666, 0o555), 81, "no-right", as_nobody=True),
+    File("a file without read permission", rights(0o000, 0o777), 81, "no-right", as_nobody=True),
+    File("a file without write permission", rights(0o444, 0o777), 81, "no-right", as_nobody=True),
+    File("a folder without write permission", rights(0o666, 0o555), 81, "no-right", as_nobody=True),
     File("a text", text, 81, "not-sqlite"),
     File("a journal", journal, 81, "journal"),
     File("broken pages", broken, 81, "corrupt"),
@@ -136,14 +138,14 @@ NO_FILES = (
 )
 OTHER_TABLES = (
     File("a row out of its range", unchecked("UPDATE product SET max = 5"), 81, "invalid-database"),
-    File("a table less", sql("DROP TABLE mark"), 81, 'missing-table table="mark"'),
-    File("a column more", sql("ALTER TABLE lot ADD COLUMN note INTEGER"), 81, 'other-table table="lot"'),
+    File("a missing table", sql("DROP TABLE mark"), 81, 'missing-table table="mark"'),
+    File("an additional column", sql("ALTER TABLE lot ADD COLUMN note INTEGER"), 81, 'other-table table="lot"'),
     File("a view with a table's name", sql("DROP TABLE mark; CREATE VIEW mark AS SELECT 1 AS client"), 81, 'other-table table="mark"'),
-    File("a table more", sql("CREATE TABLE note (text TEXT)"), 81, 'foreign-table table="note"'),
+    File("an additional table", sql("CREATE TABLE note (text TEXT)"), 81, 'foreign-table table="note"'),
     File("a table with quotes in its name", sql('CREATE TABLE "a ""b""" (text TEXT)'), 81, 'foreign-table table="a \\x22b\\x22"'),
-    File("a key more", sql("CREATE UNIQUE INDEX further ON product (max)"), 81, 'further-key table="further"'),
+    File("an additional key", sql("CREATE UNIQUE INDEX further ON product (max)"), 81, 'further-key table="further"'),
     File("a view", sql("CREATE VIEW good AS SELECT * FROM session WHERE state = 1"), 81, 'view table="good"'),
-    File("no row of version", sql("DELETE FROM version"), 81, "other-version"),
+    File("no version row", sql("DELETE FROM version"), 81, "other-version"),
 )
 DAMAGED = (
     File("a product's name", sql("UPDATE product SET name = 'P 1'; UPDATE lot SET product = 'P 1'; UPDATE batch SET product = 'P 1'"), 82, "products"),
@@ -152,22 +154,22 @@ DAMAGED = (
     File("a session's id", sql("UPDATE session SET id = 9 WHERE id = 3; UPDATE word SET session = 9 WHERE session = 3"), 82, "session-ids"),
     File("another batch file", sql("UPDATE batch SET raw = CAST(replace(CAST(raw AS TEXT), 'R5', 'R6') AS BLOB)"), 82, "files"),
     File("a counter", sql("UPDATE batch SET waiting = waiting + 1"), 82, "files"),
-    File("a word more", sql("INSERT INTO word VALUES (2, 0, 36864)"), 82, "files"),
+    File("an additional word", sql("INSERT INTO word VALUES (2, 0, 36864)"), 82, "files"),
     File("a word with a gap", sql("UPDATE word SET place = 1"), 82, "words"),
     File("no remake", sql("DELETE FROM remake"), 82, "remakes"),
     File("a machine with two sessions", sql("UPDATE session SET machine = 'm2' WHERE machine = 'm3'"), 82, "machines"),
     File("a lot's counter", sql("UPDATE lot SET discarded = discarded + 1"), 82, "lot-counters"),
-    File("a blank less", sql("DELETE FROM blank WHERE serial = 1000"), 82, "opened-blanks"),
+    File("a missing blank", sql("DELETE FROM blank WHERE serial = 1000"), 82, "opened-blanks"),
     File("a mark's client", sql("UPDATE mark SET client = 'm 1'"), 82, "marks"),
     File("a reply's status", sql("UPDATE reply SET status = 300 WHERE number = 1 AND client = 'office'"), 82, "replies"),
-    File("a reply that was released", sql("UPDATE mark SET upto = 3"), 82, "released-replies"),
+    File("a released reply", sql("UPDATE mark SET upto = 3"), 82, "released-replies"),
 )
 FILES = *NO_FILES, *OTHER_TABLES, *DAMAGED
 
 
 @contextmanager
 def changed(base: pathlib.Path, file: File) -> Iterator[pathlib.Path]:
-    """A copy of the sound file, changed, in a folder of its own that anyone may read and write."""
+    """Yields a changed copy of the sound file, in a new folder that every user may read and write."""
     with tempfile.TemporaryDirectory() as name:
         above = pathlib.Path(name) / "shop"
         pathlib.Path(name).chmod(0o755)
@@ -187,7 +189,7 @@ def bytes_of(database: pathlib.Path) -> Optional[bytes]:
 
 
 def refused(program: str, file: File, database: pathlib.Path, user: Optional[str] = None) -> int:
-    """Tries it by both, with and without event lines. How many runs that were."""
+    """Tries a file with both commands, with and without event lines. Returns the number of runs."""
     before, runs = bytes_of(database), 0
     serve = "serve", "--db", database, "--port", free_port(), "--turns", 1
     for words in [("report", "--db", database, "--batch", "B1"), *([] if file.by_report_alone else [serve])]:
@@ -201,7 +203,7 @@ def refused(program: str, file: File, database: pathlib.Path, user: Optional[str
     return runs
 
 
-# A process that reads a file loses its own locks on it, so one of its own holds it.
+# A process that reads a file loses its own locks on it, so another process must hold the file.
 HOLDER = (
     "import sqlite3, sys\n"
     "link = sqlite3.connect(sys.argv[1])\n"
@@ -212,7 +214,7 @@ HOLDER = (
 
 @contextmanager
 def held(database: pathlib.Path) -> Iterator[None]:
-    """The file is open in an idle C's SQLite."""
+    """Keeps the file open in an idle process that uses the SQLite library."""
     with subprocess.Popen([sys.executable, "-c", HOLDER, str(database)], stdin=subprocess.PIPE, stdout=subprocess.PIPE) as holder:
         assert holder.stdout and holder.stdin
         holder.stdout.readline()
@@ -221,7 +223,7 @@ def held(database: pathlib.Path) -> Iterator[None]:
 
 
 def in_use(program: str, base: pathlib.Path) -> int:
-    """A file that a server or an idle C's SQLite has open. How many runs that were."""
+    """Tries a file that a server or an idle process has open. Returns the number of runs."""
     file = File("in use", no_file, 81, "in-use")
     with changed(base, file._replace(change=lambda database: None)) as database:
         server = Server(program, database, free_port())
@@ -233,7 +235,7 @@ def in_use(program: str, base: pathlib.Path) -> int:
 
 
 def sound_file(program: str, database: pathlib.Path) -> None:
-    """A shop with a discarded blank, running sessions and a spoiled one, a status word, a remade record, and a mark."""
+    """Makes a shop with a discarded blank, running sessions and a spoiled one, a status word, a remade record, and a release mark."""
     server = Server(program, database, free_port(), 13)
     stock(server.port, 10, 5)
     open_cards(server.port, 4)
@@ -257,7 +259,7 @@ def main() -> None:
             with changed(base, file) as database:
                 runs += refused(str(program), file, database, "nobody" if file.as_nobody and os.geteuid() == 0 else None)
         runs += in_use(str(program), base)
-    print(f"{len(FILES) + 2} kinds of files, {runs} runs: each names its cause")
+    print(f"{len(FILES) + 2} kinds of files, {runs} runs: each event line has the right cause")
 
 
 if __name__ == "__main__":

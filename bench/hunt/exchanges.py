@@ -1,12 +1,19 @@
 #!/usr/bin/env python3
-"""Runs the worked examples that go over a connection against `persod serve`, and compares what comes byte by byte.
+"""Runs the worked exchanges and messages against `persod serve`, and compares the responses byte by byte.
 
     bench/run exchanges [FILE..]
 
-A FILE is one of crates/worked/data that ends in .exchange or .message; without one all of them are run. Each case goes over a server of its own, on a
-new file and a free port: whole; in pieces of 7 bytes (where it has at most 100 messages of at most 4,096 bytes); by `curl` (a case of at most 100 asks
-of an .exchange file, but for asks that `curl` has no words for); and where the case is marked so, cut after every byte in front of each whole message.
-Each server has to end by itself after the last connection, with `served N` and status 0, and C's SQLite has to find its file whole."""
+FILE is a file of crates/worked/data that ends with .exchange or .message; the default is all of them. Each case runs with a new server on a new
+file and a free port, in up to four ways:
+
+- whole
+- in pieces of 7 bytes, if the case has at most 100 messages of at most 4,096 bytes
+- by `curl`, if the case is in an .exchange file, has at most 100 requests, and `curl` can send all
+  of them
+- cut after every byte before each whole message, if the case is marked `cut`
+
+Each server must exit after its last connection with `served N` and status 0, and the SQLite library must find its file intact. Exit status: 1 if
+a response differs."""
 import pathlib
 import sqlite3
 import subprocess
@@ -38,7 +45,7 @@ def in_pieces(port: int, ask: Ask) -> bytes:
 
 
 def by_curl(port: int, ask: Ask) -> bytes:
-    """The reply as `curl` prints it with its head."""
+    """Returns the response with its head, as `curl` prints it."""
     head, _, body = ask.message.partition(b"\r\n\r\n")
     method, target, _ = head.split(b"\r\n")[0].decode().split(" ")
     words = ["curl", "--silent", "--include", "--raw", "--globoff", "--path-as-is", "--header", "Expect:", "--request", method]
@@ -47,7 +54,7 @@ def by_curl(port: int, ask: Ask) -> bytes:
 
 
 def has_curl_words(ask: Ask) -> bool:
-    """Whether `curl` sends this target as it is: it escapes and refuses some bytes."""
+    """Returns whether `curl` sends this target unchanged. It escapes and refuses some bytes."""
     target = ask.message.split(b"\r\n")[0].split(b" ")
     return len(target) == 3 and target[1].startswith(b"/") and all(33 <= byte < 127 and byte not in b"#?" for byte in target[1])
 
@@ -71,7 +78,7 @@ def fronts(case: Case) -> int:
 
 
 def run(program: str, name: str, case: Case, way: Way, is_cut: bool = False) -> Counts:
-    """Runs a case on a way. With `is_cut` each message comes cut after every byte first, and nothing may come back."""
+    """Runs a case in one way. With `is_cut`, each message is first sent cut after every byte, and must get no response."""
     turns = len(case.asks) + (fronts(case) if is_cut else 0)
     differences = 0
     with tempfile.TemporaryDirectory() as folder:
@@ -90,7 +97,7 @@ def run(program: str, name: str, case: Case, way: Way, is_cut: bool = False) -> 
 
 
 def print_difference(name: str, line: int, way: str, wanted: Optional[bytes], came: bytes) -> int:
-    print(f"{name}:{line}: {way}\n  wanted {wanted!r}\n  came   {came!r}", flush=True)
+    print(f"{name}:{line}: {way}\n  expected {wanted!r}\n  found    {came!r}", flush=True)
     return 1
 
 

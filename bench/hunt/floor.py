@@ -1,15 +1,18 @@
 #!/usr/bin/env python3
-"""A shop floor in little: 20 machines make 1,000 cards by `persod feed`, against `persod serve` over a file, and nothing between is reliable.
-In the end what the machines printed is compared with the report, the accounts and the rows of the file.
+"""Makes 1,000 cards with 20 `persod feed` processes over an unreliable network, with kills and power failures.
 
     bench/run floor [--seed N] [--cards N] [--machines N]
 
-Between machines and server stands a network. What becomes of each message is drawn by the seed: it passes, is lost, arrives twice, arrives
-later and behind others, as itself or as a second time, or is cut on its way, and so its reply. The server is killed in the midst of messages
-and started again on its file, and it ends after its turns. Machines lose power and start with their next boot; the card that was in is taken
-out, or put in again. An office asks in the same way for what failed to be remade, until each record of the batch has its good card.
+A simulated network connects the machines and the server. The seed decides the fate of each message. It passes, is lost, arrives twice, arrives
+late (instead of the message or in addition to it), is cut, or its reply is lost or cut. The server is killed while it handles messages, and also
+exits after a number of connections. It is always started again on its file. Machines lose power, and restart with their next boot number. The
+inserted card is then removed or inserted again. An office uses the same network to remake failed records, until each record of the batch has its
+good card.
 
-Threads take turns as they like, so two runs by one seed aren't the same, but each message has the same fate.
+At the end the script compares the output of the machines with the report, the accounts, and the rows of the file. Exit status: 1 if they
+disagree.
+
+Two runs with the same seed differ, because the order of threads isn't fixed, but each message has the same fate.
 """
 import argparse
 import json
@@ -32,16 +35,16 @@ AIDS = ("F00000000101", "F0000000020202")
 MOST = 32
 TURNS = 700
 TAKEN = 12
-# of 1,000 messages
+# per 1,000 messages
 FATES = {"lost": 30, "reply lost": 30, "twice": 30, "late": 20, "late again": 30, "cut": 15, "reply cut": 15, "slow": 30}
 KILLS = 6
 STOPS = ("6A80", "6283", "6F00", "6A88")
-# Blanks for each record. Near the end few records wait, and a machine rejects each card that is put in while none does.
+# Blanks per record. Near the end few records wait, and a machine rejects each card that is inserted while none waits.
 BLANKS = 40
 
 
 class Floor:
-    """What all share: the seed, the folder, counts of what happened, and whether it is over."""
+    """Shared by all parts: the seed, the folder, counters, and whether the run is over."""
 
     def __init__(self, chosen: argparse.Namespace, folder: pathlib.Path) -> None:
         self.seed, self.cards, self.machines, self.persod = chosen.seed, chosen.cards, chosen.machines, str(chosen.program)
@@ -71,7 +74,7 @@ def free_port() -> int:
 
 
 class Server(threading.Thread):
-    """Starts `persod serve` again and again, until it is stopped."""
+    """Starts `persod serve` again whenever it ends, until it is stopped."""
 
     def __init__(self, floor: Floor) -> None:
         super().__init__()
@@ -88,7 +91,7 @@ class Server(threading.Thread):
             self.is_up.clear()
             self.floor.count("starts of the server")
             if self.process.returncode not in (0, -9):
-                self.faults.append(f"the server ended with {self.process.returncode}, {errors.strip()}")
+                self.faults.append(f"the server exited with {self.process.returncode}, {errors.strip()}")
                 self.ended = True
 
     def kill(self) -> None:
@@ -106,7 +109,7 @@ class Server(threading.Thread):
 
 
 def read_message(link: socket.socket) -> bytes:
-    """A message, as long as its head says, or nothing where it doesn't come whole."""
+    """Reads a message of the length that its head gives. Returns nothing if it is incomplete."""
     text = b""
     while piece := link.recv(65_536):
         text += piece
@@ -122,7 +125,7 @@ def length_of(head: bytes) -> int:
 
 
 def exchanged(port: int, message: bytes) -> bytes:
-    """What is answered: nothing where nobody is there, and a beginning where it is cut."""
+    """Returns the response: empty if no server listens, and a prefix if it is cut."""
     reply = b""
     try:
         with socket.create_connection(("127.0.0.1", port), timeout=60) as link:
@@ -136,7 +139,7 @@ def exchanged(port: int, message: bytes) -> bytes:
 
 
 class Network(threading.Thread):
-    """Takes each message on a connection of its own, and does with it what the seed says."""
+    """Accepts each message on its own connection, and treats it as the seed decides."""
 
     def __init__(self, floor: Floor, server: Server) -> None:
         super().__init__(daemon=True)
@@ -186,7 +189,7 @@ class Network(threading.Thread):
 
     def arrive_late(self, message: bytes) -> None:
         if b'"number-released"' in exchanged(self.floor.port, message):
-            self.floor.count("late messages whose number was released")
+            self.floor.count("late messages with a released number")
 
     def after(self, seconds: float, task) -> None:
         timer = threading.Timer(seconds, task)
@@ -202,7 +205,7 @@ class Network(threading.Thread):
 
 
 class Office:
-    """Asks again under the same number, until a whole reply comes."""
+    """Repeats each request under the same number until a complete reply arrives."""
 
     def __init__(self, port: int) -> None:
         self.port, self.number = port, 0
@@ -247,7 +250,7 @@ def stock(floor: Floor, office: Office, batch: str) -> None:
 
 
 def remake_all(floor: Floor, office: Office) -> None:
-    """Until each record is good: has what failed be made again."""
+    """Remakes failed records until each record is good."""
     while True:
         states = [line.split(" ") for line in office.look("/batch/B1/report").splitlines() if line.startswith("record ")]
         if all(state[2] == "good" for state in states):
@@ -264,7 +267,7 @@ def remake_all(floor: Floor, office: Office) -> None:
 
 
 class Machine(threading.Thread):
-    """Feeds cards, a few with each boot. What was printed of a card is kept."""
+    """Feeds a few cards with each boot number. Keeps the output for each card."""
 
     def __init__(self, floor: Floor, name: str, port: int) -> None:
         super().__init__()
@@ -282,7 +285,7 @@ class Machine(threading.Thread):
             left = self.feed(left)
 
     def feed(self, serials: list[int]) -> list[int]:
-        """Starts with the next boot. Answers the cards that are to be put in after it."""
+        """Starts with the next boot number. Returns the cards to insert after it."""
         self.boot += 1
         draw = self.floor.draw(self.machine, "boot", self.boot)
         words = ["feed", "--port", str(self.port), "--machine", self.machine, "--boot", str(self.boot), "--batch", "B1"]
@@ -300,7 +303,7 @@ class Machine(threading.Thread):
         return self.left_of(serials, printed.read_text(), draw)
 
     def line(self, serial: int) -> str:
-        """A card, and the words that it answers: most go on to its end."""
+        """Returns a card and its status words. With most of them the card becomes good."""
         draw = self.floor.draw("card", serial)
         words = [draw.choice(("9000", "9000", "9000", "6110")) for _ in range(draw.randrange(5))]
         if draw.random() < 0.08:
@@ -309,14 +312,14 @@ class Machine(threading.Thread):
 
     def count_end(self, status: int, errors: str) -> None:
         if status == -9:
-            self.floor.count("power cuts")
+            self.floor.count("power failures")
         elif (status, errors) == (3, "device\n"):
-            self.floor.count("feeds that got no reply ten times")
+            self.floor.count("feeds that ended after ten tries without a reply")
         elif status != 0 or errors:
             self.faults.append(f"{self.machine}, boot {self.boot}: status {status}, {errors.strip()}")
 
     def left_of(self, serials: list[int], printed: str, draw: random.Random) -> list[int]:
-        """Keeps what was printed. A card that was in is put in again by half."""
+        """Keeps the output. Half of the cards that were inserted are inserted again."""
         ended, was_in = set(), None
         for line in printed.splitlines():
             serial, *words = line.split(" ")
@@ -328,7 +331,7 @@ class Machine(threading.Thread):
                 self.applied[int(serial)].append((words[0], words[1]))
                 was_in = int(serial)
         if was_in is not None:
-            self.floor.count("cards that were in")
+            self.floor.count("cards inserted when a machine stopped")
             if draw.random() < 0.5:
                 ended.add(was_in)
         return [serial for serial in serials if serial not in ended]
@@ -338,7 +341,7 @@ class Machine(threading.Thread):
 
 
 def batch_of(floor: Floor) -> str:
-    """So many records of two to four groupings, for one application or two."""
+    """Returns a batch file whose records have two to four groupings for one or two applications."""
     lines = ["record,aid,rank,enc,tol,dgi"]
     for place in range(floor.cards):
         draw = floor.draw("record", place)
@@ -350,7 +353,7 @@ def batch_of(floor: Floor) -> str:
 
 
 def planned(floor: Floor, batch: str) -> dict[str, list[str]]:
-    """The commands of each record, as `persod plan` prints them."""
+    """Returns the commands of each record, as `persod plan` prints them."""
     printed = subprocess.run([floor.persod, "plan", "--max", str(MOST)], input=batch, capture_output=True, text=True, check=True).stdout
     plans: dict[str, list[str]] = {}
     for line in printed.splitlines():
@@ -362,7 +365,7 @@ def planned(floor: Floor, batch: str) -> dict[str, list[str]]:
 
 
 class Outcome:
-    """What was printed of each card by any machine, and what the server says of it in its report, its accounts and its file."""
+    """The output of all machines for each card, and the server's report, accounts and file."""
 
     def __init__(self, floor: Floor, machines: list[Machine], accounts: tuple[dict, dict]) -> None:
         self.applied: dict[int, list[str]] = defaultdict(list)
@@ -382,9 +385,9 @@ class Outcome:
         self.counted_good = {int(blank): name for _, name, _, _, blank in self.records if blank != "-"}
 
     def faults(self, plans: dict[str, list[str]]) -> list[str]:
-        found = [f"{serial} was printed good and isn't counted good" for serial in self.printed_good - set(self.counted_good)]
-        found += [f"{serial} was printed good twice" for serial, ends in self.ends.items() if ends.count("good") > 1]
-        found += [f"{serial} was put out as good and as bad" for serial in self.printed_good if self.ends[serial][0] != "good"]
+        found = [f"{serial} was printed as good, but isn't counted as good" for serial in self.printed_good - set(self.counted_good)]
+        found += [f"{serial} was printed as good twice" for serial, ends in self.ends.items() if ends.count("good") > 1]
+        found += [f"{serial} was printed as rejected and as good" for serial in self.printed_good if self.ends[serial][0] != "good"]
         if len(set(self.counted_good.values())) != len(self.counted_good):
             found.append("a record has two good cards")
         for serial, (name, state) in self.sessions.items():
@@ -392,12 +395,12 @@ class Outcome:
                 found.append(f"{serial}: the report and the file differ")
         for serial, commands in self.applied.items():
             if serial not in self.sessions:
-                found.append(f"{serial} received commands and isn't charged")
+                found.append(f"{serial} received commands, but isn't charged")
             elif commands != plans[self.sessions[serial][0]][: len(commands)]:
-                found.append(f"{serial} received what isn't a beginning of its record's commands")
+                found.append(f"{serial} received commands that aren't the first ones of its record")
         for serial in self.printed_good & set(self.sessions):
             if self.applied[serial] != plans[self.sessions[serial][0]]:
-                found.append(f"{serial} was printed good and didn't receive all commands")
+                found.append(f"{serial} was printed as good, but didn't receive all commands")
         return found + self.sums()
 
     def sums(self) -> list[str]:

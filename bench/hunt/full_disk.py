@@ -1,13 +1,22 @@
 #!/usr/bin/env python3
-"""Fills the disk under `persod serve` again and again, and looks whether it goes on once there is room. It mounts a small tmpfs, as root.
+"""Fills the disk of `persod serve` repeatedly, and checks that it continues when there is space.
 
     bench/run full_disk [--rounds N] [--seed N]
 
-A machine and the office work, one request at a time. In each round all room but a little is taken away, and that too after a hundred requests, until
-a request is answered 503. Then the same request is 503 again, accounts are as before it, what was answered gets its reply again, and another client's request
-is 503 or is done. In every third round the server is killed and started while the disk is full: it listens, or it ends with status 3, `storage`. Then
-there is room again, and the request is asked again. In the end all is asked of a server on a new file that always had room: each reply is the same byte
-by byte, and so are accounts, reports and the rows of all tables. First of all, a server on a full disk with no file listens, or ends so too."""
+The script mounts a small tmpfs, so it requires root. First it starts a server without a database file on a full disk: the server must listen, or
+exit with status 3 and `storage`.
+
+Then a machine and the office work, one request at a time. In each round almost all space is taken, and after a hundred requests the rest, until
+a request gets status 503. While the disk is full:
+
+- the same request gets status 503 again
+- the accounts are unchanged, and earlier requests get their replies again
+- a request of another client gets status 503 or is executed
+- in every third round, the server is killed and started. It must listen, or exit with status 3 and
+  `storage`
+
+When there is space again, the request is repeated. At the end all requests are sent to a server on a new file that always had space. Replies,
+accounts, reports and the rows of all tables must be the same. Exit status: 1 if a check fails."""
 import argparse
 import pathlib
 import random
@@ -30,14 +39,14 @@ MACHINE, OTHER = "m1", "other"
 
 
 class Disk:
-    """A small disk in memory, and a file that takes its room."""
+    """A small disk in memory, and a file that takes its space."""
 
     def __init__(self, folder: pathlib.Path) -> None:
         self.folder, self.filler = folder, folder / "filler"
         subprocess.run(["mount", "-t", "tmpfs", "-o", f"size={SIZE}", "tmpfs", folder], check=True)
 
     def fill(self, pages: int) -> None:
-        """Takes all room but for so many pages."""
+        """Takes all space except for `pages` pages."""
         with self.filler.open("wb", buffering=0) as file:
             try:
                 while True:
@@ -54,7 +63,7 @@ class Disk:
 
 
 class FullShop(Shop):
-    """A shop whose disk is filled some requests after it was emptied, and emptied once a request was refused."""
+    """A shop whose disk is filled some requests after it was freed, and freed after a request was refused."""
 
     def __init__(self, program: str, disk: Disk, draw: random.Random) -> None:
         super().__init__(free_port())
@@ -83,19 +92,19 @@ class FullShop(Shop):
         return reply
 
     def look(self, sent: Sent, reply: bytes, before: list[bytes]) -> None:
-        """What holds while the disk is full. Then there is room again."""
+        """Checks the server while the disk is full, and then frees the disk."""
         if not self.is_full or reply != STORAGE:
             sys.exit(f"{sent.message!r}: {reply!r}")
         self.rounds += 1
         for _ in range(3):
             if accounts(self.port, self.batches[-3:]) != before:
-                sys.exit("a request that was answered 503 changed the accounts")
+                sys.exit("a request with status 503 changed the accounts")
             for old in self.draw.sample(self.answered(), min(5, len(self.answered()))):
                 if (came := super().once(old)) != old.reply:
-                    sys.exit(f"{old.message!r} again: {came!r}, and not {old.reply!r}")
+                    sys.exit(f"{old.message!r} repeated: {came!r}, expected {old.reply!r}")
                 old.turns.pop()
             if super().once(sent) != STORAGE:
-                sys.exit(f"{sent.message!r}: 503, and then something else, with no more room")
+                sys.exit(f"{sent.message!r}: another response than 503 while the disk was still full")
             self.refused += 1
         self.other()
         if self.rounds % 3 == 0:
@@ -106,24 +115,24 @@ class FullShop(Shop):
         self.is_full, self.quiet = False, self.draw.randint(1, QUIET)
 
     def answered(self) -> list[Sent]:
-        """What is kept: the latest requests of the machine since it started anew."""
+        """Returns recent requests of the machine with kept replies, since its last start."""
         its = [sent for sent in self.sent if sent.client == MACHINE and sent.is_first]
         since = max((place for place, sent in enumerate(its) if b'"release"' in sent.message), default=0)
         return [sent for sent in its[since:] if sent.reply][-40:]
 
     def other(self) -> None:
-        """Another client's refused request, which is kept if there is room for it."""
+        """Sends a refused request of another client. The refusal is kept if there is space for it."""
         self.others += 1
         reply = Shop.once(self, Sent(OTHER, self.others, request(OTHER, self.others, do="abort", session=999_999), False))
         if reply != STORAGE and (parts(reply) or (0, b""))[0] != 409:
             sys.exit(f"another client's request: {reply!r}")
 
     def start_anew(self) -> None:
-        """Kills the server, and starts one while the disk is full."""
+        """Kills the server, and starts another while the disk is full."""
         self.server.kill()
         check_kept(self.database, self.sent, OTHER)
         if any(sent.decided and sent.reply is None for sent in self.sent):
-            sys.exit("a request that was answered 503 is kept")
+            sys.exit("a request with status 503 is kept")
         try:
             self.server = Server(self.program, self.database, self.port)
             self.starts += 1
@@ -133,7 +142,7 @@ class FullShop(Shop):
 
 
 def no_file(program: str, disk: Disk) -> str:
-    """A start on a full disk with no file: what it printed, or that it listens."""
+    """Starts a server without a database file on a full disk. Returns its output, or that it listens."""
     disk.fill(0)
     stopped: Optional[Stopped] = None
     try:
@@ -143,7 +152,7 @@ def no_file(program: str, disk: Disk) -> str:
         stopped = stop
     disk.free()
     if stopped and (stopped.status, stopped.printed) != (3, "storage\n"):
-        sys.exit(f"a start on a full disk with no file: {stopped}")
+        sys.exit(f"a start without a file on a full disk: {stopped}")
     server = Server(program, disk.folder / "none.db", free_port())
     server.kill()
     for path in disk.folder.glob("none.db*"):
@@ -152,7 +161,7 @@ def no_file(program: str, disk: Disk) -> str:
 
 
 def run(program: str, disk: Disk, rounds: int, seed: str) -> None:
-    print(f"with no file on a full disk: {no_file(program, disk)}")
+    print(f"without a file on a full disk: {no_file(program, disk)}")
     shop = FullShop(program, disk, random.Random(f"{seed}/disk"))
     try:
         work(program, shop, rounds, seed)
@@ -171,8 +180,8 @@ def work(program: str, shop: FullShop, rounds: int, seed: str) -> None:
     with tempfile.TemporaryDirectory() as folder:
         check_same(program, shop.server, shop.database, shop, pathlib.Path(folder), OTHER)
     print(
-        f"{shop.rounds} times full, {shop.refused} more requests answered 503, {shop.starts} starts of {shop.rounds // 3} on a full disk listened; "
-        f"{len(shop.sent)} asked, {machine.good} good cards; the same as with room, seed {seed}"
+        f"{shop.rounds} times full, {shop.refused} more requests with status 503, {shop.starts} of {shop.rounds // 3} starts on a full disk listened; "
+        f"{len(shop.sent)} requests, {machine.good} good cards; the same as with space, seed {seed}"
     )
 
 

@@ -1,11 +1,11 @@
 #!/usr/bin/env python3
-"""Fills the disk under `persod serve`, and looks whether its event lines say so. It mounts a small tmpfs, as root.
+"""Fills the disk of `persod serve`, and checks its event lines. Mounts a small tmpfs, so it requires root.
 
     bench/run full_events [--rounds N]
 
-In each round the disk is filled, and the office imports batches until one is answered 503; then it asks the same again a few times. Each 503 has one line
-with `fault=full` and the request's line, and no other connection has a line with a fault. Then there is room again: the same request is answered 200,
-and `recovered` stands before the first line that comes after it."""
+In each round the disk is filled, and the office imports batches until one gets status 503. Then it repeats the request a few times. Each 503
+must have one event line with `fault=full` and the first line of the request, and no other connection may have a line with a fault. When there is
+space again, the same request must get status 200, and `recovered` must be the next event line. Exit status: 1 if a line is missing or wrong."""
 import argparse
 import pathlib
 import tempfile
@@ -19,7 +19,7 @@ AGAIN = 3
 
 
 class Office:
-    """Asks, and keeps the event lines that must come."""
+    """Sends requests, and keeps the expected event lines."""
 
     def __init__(self, port: int) -> None:
         self.port, self.number = port, 3
@@ -29,7 +29,7 @@ class Office:
         return imported("office", self.number, f"B{self.number}", "P1", batch_file(50, 100))
 
     def ask(self) -> bool:
-        """Whether the request was done. If the disk was full, its line must come."""
+        """Returns whether the request was executed. If the disk was full, its line is expected."""
         reply = exchange(self.port, self.message())
         if reply != STORAGE:
             expect(f"the status of number {self.number}", (parts(reply) or (0,))[0], 200)
@@ -39,7 +39,7 @@ class Office:
         return False
 
     def fill(self, disk: Disk) -> None:
-        """Until a request is answered 503, and then a few times more. Accounts are read as ever."""
+        """Imports batches on a full disk until a request gets status 503, and repeats it. Accounts must still be available."""
         disk.fill(0)
         expect("an account", (parts(exchange(self.port, get("/batch/B1"))) or (0,))[0], 200)
         self.number += 1
@@ -49,7 +49,7 @@ class Office:
             expect("a request on a full disk", self.ask(), False)
         disk.free()
         self.wanted.append("recovered")
-        expect("with room again", self.ask(), True)
+        expect("with space again", self.ask(), True)
 
 
 def main() -> None:
@@ -71,7 +71,7 @@ def main() -> None:
         finally:
             server.kill()
             disk.end()
-    print(f"{given.rounds} times full: each of {len(office.wanted) - given.rounds} replies 503 has its line, and `recovered` stands behind them")
+    print(f"{given.rounds} times full: each of {len(office.wanted) - given.rounds} responses 503 has its line, followed by `recovered`")
 
 
 if __name__ == "__main__":

@@ -1,11 +1,12 @@
 #!/usr/bin/env python3
-"""Runs the health check service/health.sh next to a server, and checks its status, its line, its state file, and the rows that it adds.
+"""Tests the health check service/health.sh: its exit status, output, state file, and rows in the database.
 
     bench/run health [--checks N]
 
-Without a server, and next to a stand-in that doesn't respond or isn't `persod`, the server is down. A request without a reply is kept before it is sent, and
-sent again first. For three days of a simulated clock, each with N checks (10), the database file has one row for each check since the last release.
-Numbers stay usable if the state file is lost, if the clock is set back, or if both happen. As root, the disk is also filled."""
+Without a server, and with a stand-in that doesn't respond or isn't `persod`, the check must report that the server is down. A request without a
+reply must be kept before it is sent, and sent again first. For three days of a simulated clock with N checks each (default 10), the database
+file must have one row for each check since the last release. Request numbers must stay usable if the state file is lost, if the clock is set
+back, or if both happen. As root, the script also fills the disk. Exit status: 1 if a check fails."""
 import argparse
 import os
 import pathlib
@@ -34,7 +35,7 @@ RESET, RESET_REPLY = '{"do":"reset"}', '{"result":"reset","session":0}'
 
 
 class Monitor:
-    """The script in a folder of its own, with a clock that the test sets."""
+    """The script in its own folder, with a clock that the test sets."""
 
     def __init__(self, folder: pathlib.Path, port: int, shell: Optional[list[str]] = None) -> None:
         self.folder, self.port, self.shell, self.now = folder, port, shell or ["sh"], NOON
@@ -44,7 +45,7 @@ class Monitor:
         (self.bin / "date").chmod(0o755)
 
     def run(self, *words: str, path: str = "", **variables: str) -> tuple[int, list[str], list[str]]:
-        """Status, lines of standard output, and lines of standard error."""
+        """Returns the exit status, and the lines of standard output and standard error."""
         clock = {"PORT": str(self.port), "TIMEOUT": "1", "NOW": str(self.now), "PATH": path or f"{self.bin}:{os.environ['PATH']}"}
         shell = shutil.which(self.shell[0]) or ""
         ran = subprocess.run([shell, *self.shell[1:], SCRIPT, *words], cwd=self.folder, env={**environment(""), **clock, **variables},
@@ -63,7 +64,7 @@ class Monitor:
         expect(f"{words} {variables}", self.run(*words, **variables), (2, [], [f"health.sh: {message}"]))
 
     def kept(self) -> list[str]:
-        """The words of the state file: number, day of the last release, pending request."""
+        """Returns the fields of the state file: number, day of the last release, pending request."""
         return self.state.read_text().rstrip("\n").split(" ")
 
     def resets(self, count: int = 1) -> None:
@@ -76,7 +77,7 @@ class Monitor:
 
 
 class Standin:
-    """Listens in place of a server, and sends each client what `responds` returns for its message, or nothing at all for None."""
+    """Listens instead of a server. Sends each client the result of `responds` for its message, or nothing at all for None."""
 
     def __init__(self, responds: Callable[[bytes], Optional[bytes]]) -> None:
         self.listener, self.responds = socket.create_server(("127.0.0.1", 0)), responds
@@ -99,7 +100,7 @@ class Standin:
 
 
 def replies(database: pathlib.Path) -> list[tuple[int, str]]:
-    """Number and request of each kept reply to the monitor, by number, from a copy of the files of a server that was killed."""
+    """Returns the number and the request of each kept reply to the monitor, by number. Reads a copy of the files of a killed server."""
     with tempfile.TemporaryDirectory() as folder:
         for file in database.parent.glob(f"{database.name}*"):
             shutil.copy(file, folder)
@@ -117,7 +118,7 @@ def release(number: int) -> tuple[int, str]:
 
 
 def starts(program: str, folder: pathlib.Path, shell: list[str]) -> None:
-    """First there is no server. Once there is one, the pending request is sent, and then a new one."""
+    """Checks without a server first. When a server runs, the pending request is sent, and then a new one."""
     monitor, database = Monitor(folder, free_port(), shell), folder / "shop.db"
     for word in ("read", "write", "write"):
         monitor.is_down("curl: (7) ", word)
@@ -135,7 +136,7 @@ def starts(program: str, folder: pathlib.Path, shell: list[str]) -> None:
 
 
 def days(program: str, folder: pathlib.Path, checks: int) -> None:
-    """The first request of a day is a release. The file has the replies since then."""
+    """Runs the checks of three days. The first request of a day is a release, and the file has the replies since then."""
     monitor, database = Monitor(folder, free_port()), folder / "shop.db"
     step = 3 * DAY // 4 // checks
     for day in range(3):
@@ -151,7 +152,7 @@ def days(program: str, folder: pathlib.Path, checks: int) -> None:
 
 
 def numbers(program: str, folder: pathlib.Path) -> None:
-    """The clock is set back, the state file is lost, both happen, and another client uses a number."""
+    """Sets the clock back, deletes the state file, does both, and lets another client use a number."""
     monitor, database = Monitor(folder, free_port()), folder / "shop.db"
     server = Server(program, database, monitor.port)
     monitor.releases()
@@ -176,7 +177,7 @@ def numbers(program: str, folder: pathlib.Path) -> None:
 
 
 def loses(program: str, folder: pathlib.Path) -> None:
-    """A stand-in loses replies. The state file has each request before it is sent, and its repeat gets the kept reply."""
+    """Uses a stand-in that loses replies. The state file has each request before it is sent, and its repeat gets the kept reply."""
     server = Server(program, folder / "shop.db", free_port())
     seen, lost = [], True
 
@@ -199,7 +200,7 @@ def loses(program: str, folder: pathlib.Path) -> None:
 
 
 def others(_: str, folder: pathlib.Path) -> None:
-    """Responses that `persod` doesn't send, or sends if it can't store a reply."""
+    """Sends responses that `persod` doesn't send, or sends if it can't store a reply."""
     response = None
     monitor = Monitor(folder, Standin(lambda _: response).port)
     for word in ("read", "write"):
@@ -217,7 +218,7 @@ def others(_: str, folder: pathlib.Path) -> None:
 
 
 def refuses(_: str, folder: pathlib.Path) -> None:
-    """Cases without a check, and without a request."""
+    """Checks the cases in which no request is sent."""
     monitor = Monitor(folder, free_port())
     usage = "usage: health.sh read, or health.sh write"
     for words in ((), ("",), ("check",), ("read", "write")):
@@ -235,7 +236,7 @@ def refuses(_: str, folder: pathlib.Path) -> None:
 
 
 def fills(program: str, folder: pathlib.Path) -> None:
-    """On a full disk the server is down. Once there is space, it is up again."""
+    """Fills the disk. The server is down until there is space again."""
     disk = Disk(folder)
     with tempfile.TemporaryDirectory() as name:
         monitor = Monitor(pathlib.Path(name), free_port())

@@ -1,15 +1,19 @@
 #!/usr/bin/env python3
-"""20,000 connections of random and hostile bytes to `persod serve`, while four machines make cards.
+"""Opens 20,000 connections with random and hostile bytes to `persod serve` while four machines make cards.
 
     bench/run hostile [--folder FOLDER] [--connections N] [--slow N] [--patience N] [--seed N]
 
-Half of them are reset midway. Each of the others gets the reply that its bytes have to get, or none. N more say nothing or stop within their message,
-and as many send a byte now and then: these are closed after 5 s and after 10 s, as docs/PROTOCOL.md says, get no reply, and keep nobody waiting. Each
-request of a machine has to be answered in the time that those before it may take, a quarter of a second for every one; an import and a body of
-16 MiB have 3 s. All have --patience times as much, which a build that isn't proved needs. What is in memory may grow by 1 MiB from the
-first tenth of the connections to the last, and by one body of 16 MiB, which the C library may keep, in a hundred connections with such bodies. In the
-end the machines' requests are asked of a server on a new file without any peer: each reply is the same byte by byte, and so are accounts, reports and
-the rows of all tables."""
+Half of the connections are reset midway. Each of the others must get the response that its bytes require, or none. N more connections send
+nothing or stop within a message, and N more send a byte from time to time. The server must close these after 5 s and after 10 s, as
+docs/PROTOCOL.md says, and send no response.
+
+Each request of a machine must get its reply in the time that the connections before it may take: 0.25 s for each, and 3 s for an import or a
+body of 16 MiB. Both limits are multiplied by --patience, which a build without proofs needs. Memory may grow by 1 MiB from the first tenth of
+the connections to the last. During a hundred connections with bodies of 16 MiB it may also grow by two such bodies, which the C library may
+keep.
+
+At the end the requests of the machines are sent to a server on a new file, without the other connections. Replies, accounts, reports and the
+rows of all tables must be the same. Exit status: 1 if a check fails."""
 import argparse
 import pathlib
 import random
@@ -37,14 +41,14 @@ BATCHES = 3
 
 
 class Answered(NamedTuple):
-    """What a machine's request took, and what it may have taken at most."""
+    """The time of a machine's request, and the maximum allowed time."""
 
     took: float
     allowed: float
 
 
 class Crowd(Shop):
-    """A shop among peers. Of each connection that isn't known to be over it keeps the longest that it may hold the server."""
+    """A shop among hostile peers. For each connection that may still be open, it keeps the maximum time that it may occupy the server."""
 
     def __init__(self, port: int, patience: float) -> None:
         super().__init__(port)
@@ -53,7 +57,7 @@ class Crowd(Shop):
         self.answered: list[Answered] = []
 
     def begin(self, hold: float, message: bytes = b"") -> tuple[socket.socket, int, float, float]:
-        """Connects and sends a message, and answers its place, the time that all may take up to it, and when it began."""
+        """Connects and sends a message. Returns the connection, its position, the time that all connections up to it may take, and the start time."""
         with self.lock:
             peer = connect(self.port)
             self.turns += 1
@@ -63,7 +67,7 @@ class Crowd(Shop):
             return peer, self.turns, sum(self.holds.values()), began
 
     def end(self, turn: int) -> None:
-        """It is over, and so are all before it."""
+        """Marks a connection and all earlier ones as closed."""
         with self.lock:
             for place in [place for place in self.holds if place <= turn]:
                 del self.holds[place]
@@ -77,7 +81,7 @@ class Crowd(Shop):
         self.end(turn)
         self.answered.append(Answered(took, allowed))
         if took > allowed:
-            self.wrong.append(f"{sent.message!r} took {took:.2f} s, and {allowed:.2f} s were allowed")
+            self.wrong.append(f"{sent.message!r} took {took:.2f} s; {allowed:.2f} s are allowed")
         if parts(reply) is None or parts(reply)[0] == 503:
             self.wrong.append(f"{sent.message!r}: {reply!r}")
             self.is_over.set()
@@ -85,14 +89,14 @@ class Crowd(Shop):
 
 
 class Peers:
-    """Who connects beside the machines."""
+    """The connections other than those of the machines."""
 
     def __init__(self, shop: Crowd, seed: str) -> None:
         self.shop, self.seed, self.draw = shop, seed, random.Random(seed)
         self.counts: dict[str, int] = {}
 
     def some(self, count: int, worker: int, kind: Callable[[random.Random], Peer] = some_peer) -> None:
-        """So many connections, of which half are reset midway."""
+        """Opens `count` connections. Half of them are reset midway."""
         draw = random.Random(f"{self.seed}/{count}/{worker}")
         for _ in range(count):
             self.one(draw, kind(draw), draw.random() < 0.5)
@@ -113,7 +117,7 @@ class Peers:
         link.close()
         self.shop.end(turn)
         if not peer.is_right(came):
-            self.shop.wrong.append(f"{peer.kind}: {peer.message[:300]!r} got {came!r}, and not {peer.wanted!r}")
+            self.shop.wrong.append(f"{peer.kind}: {peer.message[:300]!r} got {came!r}, expected {peer.wanted!r}")
 
     def slow(self, count: int, way: Callable[..., bytes], hold: float) -> None:
         draw = random.Random(f"{self.seed}/{count}/{way.__name__}")
@@ -125,7 +129,7 @@ class Peers:
             self.shop.end(turn)
             self.count(way.__name__)
             if came or not hold - SLOWNESS < took < hold + self.shop.short + SLOWNESS:
-                self.shop.wrong.append(f"{way.__name__}: got {came!r} after {took:.2f} s, and not after {hold:.2f}")
+                self.shop.wrong.append(f"{way.__name__}: got {came!r} after {took:.2f} s, expected nothing and the end after {hold:.2f} s")
             time.sleep(draw.uniform(0, 10))
 
     def count(self, kind: str) -> None:
@@ -134,7 +138,7 @@ class Peers:
 
 
 def crowd(peers: Peers, connections: int, slow: int) -> None:
-    """So many connections by workers side by side, and the slow ones, and waits for their end."""
+    """Opens `connections` connections in several threads, and the slow ones, and waits for their end."""
     works = [threading.Thread(target=peers.some, args=(connections // WORKERS, worker)) for worker in range(WORKERS)]
     works += [threading.Thread(target=peers.slow, args=(slow, silent, SILENT)), threading.Thread(target=peers.slow, args=(slow, dripping, DRIPPING))]
     for work in works:
@@ -144,16 +148,16 @@ def crowd(peers: Peers, connections: int, slow: int) -> None:
 
 
 def memory(peers: Peers, server: Server, connections: int, slow: int) -> None:
-    """Lets all peers come, and looks how much of the server is in memory."""
+    """Runs all peers, and checks how much memory the server uses."""
     crowd(peers, int(connections * WARM), 1)
     warm, asked = server.resident(), len(peers.shop.sent)
     crowd(peers, connections - int(connections * WARM) - BODIES, slow - 1)
     later, asked = server.resident(), len(peers.shop.sent) - asked
     peers.some(BODIES, WORKERS, large)
     last, most = server.resident(), server.peak()
-    sizes = f"{warm >> 10} KiB, with {asked} requests of the shop {later >> 10}, with {BODIES} bodies of 16 MiB {last >> 10}"
-    print(f"resident after {WARM:.0%} {sizes}; at most {most >> 10}")
-    # A server keeps the memory that an arrival let go: of a batch, its body and what a repeat must equal.
+    sizes = f"{warm >> 10} KiB, after {asked} requests of the shop {later >> 10}, after {BODIES} bodies of 16 MiB {last >> 10}"
+    print(f"resident after {WARM:.0%}: {sizes}; peak {most >> 10}")
+    # The server keeps freed memory of a request. For an import, that is its body and the request bytes.
     if later - warm > GROWTH or last - later > GROWTH + 2 * MOST_FILE:
         peers.shop.wrong.append("memory grew")
 
@@ -161,8 +165,8 @@ def memory(peers: Peers, server: Server, connections: int, slow: int) -> None:
 def times_line(answered: list[Answered]) -> str:
     took = [one.took for one in answered]
     nearest = max((one.took / one.allowed for one in answered), default=0)
-    text = f"{len(took)} answered: median {statistics.median(took) * 1e3:.0f} ms, longest {max(took):.2f} s; "
-    return text + f"at most {nearest:.0%} of what was allowed"
+    text = f"{len(took)} requests: median {statistics.median(took) * 1e3:.0f} ms, longest {max(took):.2f} s; "
+    return text + f"at most {nearest:.0%} of the allowed time"
 
 
 def run(program: str, folder: pathlib.Path, connections: int, slow: int, patience: float, seed: str) -> None:
@@ -184,9 +188,9 @@ def run(program: str, folder: pathlib.Path, connections: int, slow: int, patienc
     if shop.wrong:
         sys.exit("\n".join(one[:1000] for one in shop.wrong[:20]) + f"\n{len(shop.wrong)} wrong")
     if exchange(shop.port, get("/blanks/evil")).find(b"product-unknown") < 0:
-        sys.exit("a message without its last byte was taken")
+        sys.exit("a message without its last byte was accepted")
     check_same(program, server, folder / "hostile.db", shop, folder, EVIL)
-    print(f"{len(shop.sent)} asked by the shop, {sum(maker.good for maker in makers)} good cards; the same as without the peers, seed {seed}")
+    print(f"{len(shop.sent)} requests of the shop, {sum(maker.good for maker in makers)} good cards; the same as without the peers, seed {seed}")
 
 
 def main() -> None:

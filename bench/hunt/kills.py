@@ -1,13 +1,18 @@
 #!/usr/bin/env python3
-"""Kills `persod serve` at random moments while machines work, starts it again each time, and compares all with a run that was never killed.
+"""Kills `persod serve` 200 times while machines work, and compares the result with a run without kills.
 
     bench/run kills [--folder FOLDER] [--kills N] [--machines N] [--seed N]
 
-The server is killed by SIGKILL 200 times, one time in five in its start or just behind it. Everyone asks what wasn't answered again, by the same bytes.
-After each kill C's SQLite reads a copy of the file: it is whole, each reply that was given is kept there (but for those of released numbers, which are
-not), and nothing is kept that wasn't asked. So it is known too in which connection a request was decided whose reply was lost. In the end everything is
-asked once more, in the order in which it was decided, of a server on a new file that is never killed: each reply is the same byte by byte, and so are
-accounts, reports and the rows of all tables. SIGKILL loses nothing that the system was given to write, so this says nothing of a power cut."""
+The server is killed by SIGKILL at random moments, one time in five during its start or shortly after it, and started again. The clients repeat
+every request without a reply, with the same bytes.
+
+After each kill the SQLite library reads a copy of the file. The copy must be intact and contain every reply that a client got, except for
+released numbers. It must not contain anything that wasn't requested. The copy also shows in which connection a request was decided if its reply
+was lost.
+
+At the end all requests are sent again, in the order in which they were decided, to a server on a new file that is never killed. Replies,
+accounts, reports and the rows of all tables must be the same. SIGKILL doesn't lose data that was passed to the operating system, so this isn't a
+test of power failures. Exit status: 1 if a check fails."""
 import argparse
 import pathlib
 import random
@@ -28,36 +33,37 @@ Kept = dict[tuple[str, int], tuple[bytes, int, bytes]]
 
 
 def kept_rows(link: sqlite3.Connection) -> tuple[Kept, dict[str, int]]:
-    """Which replies are kept, and the clients' marks."""
+    """Returns the kept replies, and the release marks of the clients."""
     if is_empty(link):
         return {}, {}
     if not is_whole(link):
-        sys.exit("the file isn't whole")
+        sys.exit("the file isn't intact")
     replies = {(client, number): (ask, status, body) for client, number, ask, status, body in link.execute("SELECT * FROM reply")}
     return replies, dict(link.execute("SELECT client, upto FROM mark").fetchall())
 
 
 def asked(sent: Sent) -> bytes:
-    """What is kept of a request: the tail of its target, a byte 00, and its body."""
+    """Returns the request bytes: the path after the request number, a byte 00, and the body."""
     head, _, body = sent.message.partition(b"\r\n\r\n")
     tail = head.split(b" ")[1].split(b"/", 4)[4:]
     return b"".join(b"/" + part for part in tail) + b"\0" + body
 
 
 def check_kept(database: pathlib.Path, all_sent: list[Sent], others: str = "") -> int:
-    """Each reply is in the file, and what is in the file was asked, but by a client who asked beside them. Answers how many replies were lost."""
+    """Checks that each reply is in the file, and that everything in the file was requested, except by the client `others`. Returns the number of
+    lost replies."""
     given = [(sent, sent.reply) for sent in all_sent if sent.is_first]
     kept, marks = looked(database, kept_rows)
     asks = {(sent.client, sent.number): asked(sent) for sent, _ in given}
     for key, row in kept.items():
         if key[0] != others and asks.get(key) != row[0]:
-            sys.exit(f"{key}: {row[0]!r} is kept, and {asks.get(key)!r} was asked")
+            sys.exit(f"{key}: {row[0]!r} is kept, but {asks.get(key)!r} was requested")
     lost = 0
     for sent, reply in given:
         row = kept.get((sent.client, sent.number))
         if reply and sent.number > marks.get(sent.client, 0) and not any(name in reply for name in NOT_KEPT):
             if row is None or (row[1], row[2]) != parts(reply):
-                sys.exit(f"{sent.client} {sent.number} got {reply!r}, and kept is {row}")
+                sys.exit(f"{sent.client} {sent.number} got {reply!r}, but {row} is kept")
         if row and sent.decided is None:
             sent.decided = sent.turns[-1]
             lost += reply is None
@@ -65,22 +71,22 @@ def check_kept(database: pathlib.Path, all_sent: list[Sent], others: str = "") -
 
 
 def kill_often(program: str, database: pathlib.Path, shop: Shop, kills: int, draw: random.Random) -> dict[str, int]:
-    """Starts the server and kills it, so many times."""
-    counts = {"kills": 0, "in its start": 0, "with a reply lost": 0}
+    """Starts and kills the server `kills` times."""
+    counts = {"kills": 0, "during a start": 0, "with a lost reply": 0}
     slowest = 0.05
     while counts["kills"] < kills and not shop.is_over.is_set():
         server = Server(program, database, shop.port, wait=False)
         if draw.random() < 0.2:
             time.sleep(draw.uniform(0, 1.2 * slowest))
-            counts["in its start"] += 1
+            counts["during a start"] += 1
         else:
             slowest = server.listen()
             time.sleep(draw.uniform(0, LONGEST))
         server.kill()
         counts["kills"] += 1
-        counts["with a reply lost"] += check_kept(database, list(shop.sent))
+        counts["with a lost reply"] += check_kept(database, list(shop.sent))
         if counts["kills"] % 20 == 0:
-            print(f"{counts['kills']} kills, {len(shop.sent)} asked", flush=True)
+            print(f"{counts['kills']} kills, {len(shop.sent)} requests", flush=True)
     return counts
 
 
@@ -102,7 +108,7 @@ def run(program: str, folder: pathlib.Path, kills: int, machines: int, seed: str
     check_kept(folder / "killed.db", shop.sent)
     print(", ".join(f"{count} {name}" for name, count in counts.items()))
     good = sum(maker.good for maker in makers)
-    print(f"{len(shop.sent)} asked in {shop.turns} connections, {good} good cards; the same as without a kill, seed {seed}")
+    print(f"{len(shop.sent)} requests in {shop.turns} connections, {good} good cards; the same as without kills, seed {seed}")
 
 
 def main() -> None:

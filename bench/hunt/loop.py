@@ -1,14 +1,18 @@
 #!/usr/bin/env python3
-"""Runs the script service/serve.sh, which keeps a server running, and checks what it does after each kind of exit.
+"""Tests the script service/serve.sh, which keeps a server running, after each kind of exit and signal.
 
     bench/run loop
 
-After its connections the server exits, and the script makes a copy that is complete, checked and readable only by its owner. It keeps the last KEEP copies,
-and reports a copy that fails its check. After a kill, and once the file isn't in use any more, the server listens again. The script exits with status 82
-if the file is missing or damaged, if the WAL is damaged, and if an argument or a program is wrong. If a signal ends the script, the script ends its
-server. If nobody reads the output of the script, the server goes on. The signals are tried in each shell of this machine.
+- After its connections the server exits, and the script makes a copy that is complete, checked and
+  readable only by its owner. It keeps the last KEEP copies, and reports a copy that fails its check
+- After a kill, and when the file is no longer in use, the server listens again
+- The script exits with status 82 if the file is missing or damaged, if the WAL is damaged, or if an
+  argument or a program is wrong
+- If a signal ends the script, the script ends its server
+- If nobody reads the output of the script, the server continues
 
-The copy that fails is damaged by a `cp` of this test. The damaged WAL is reported by a stand-in for `persod`, which prints the lines of docs/EVENTS.md."""
+The signals are tried in each shell of this machine. The copy that fails is damaged by a `cp` of this test. A stand-in for `persod` reports the
+damaged WAL with the lines of docs/EVENTS.md. Exit status: 1 if a check fails."""
 import datetime
 import os
 import pathlib
@@ -53,7 +57,7 @@ class Shop:
         self.database.touch(0o600)
 
     def program(self, name: str, text: str) -> None:
-        """Puts a script in front of the program with this name."""
+        """Puts a script before the program with this name."""
         (self.bin / name).unlink(missing_ok=True)
         (self.bin / name).write_text(text)
         (self.bin / name).chmod(0o755)
@@ -96,7 +100,7 @@ class Loop:
             time.sleep(0.05)
 
     def servers(self) -> list[int]:
-        """The processes of the script's group that are servers."""
+        """Returns the processes of the script's group that are servers."""
         found = []
         for entry in pathlib.Path("/proc").glob("[0-9]*/stat"):
             try:
@@ -125,7 +129,8 @@ def mode(path: pathlib.Path) -> str:
 
 
 def goes_on(shop: Shop) -> None:
-    """After its connections, after a kill, and once the file isn't in use any more. Event lines are on unless PERSOD_LOG says otherwise."""
+    """Checks restarts after the connections, after a kill, and when the file is no longer in use. Event lines are on unless PERSOD_LOG says
+    otherwise."""
     with Loop(shop) as loop:
         loop.wait_for("^listening ")
         expect("the event line of the start", loop.lines('^made db="shop.db"$'), 1)
@@ -150,7 +155,7 @@ def goes_on(shop: Shop) -> None:
 
 
 def goes_on_unread(shop: Shop) -> None:
-    """A reader of the output that has gone away ends neither the script nor the server."""
+    """Checks that neither the script nor the server ends when the reader of the output has exited."""
     reader, writer = os.pipe()
     with Loop(shop, 3, level="all", to=writer) as loop:
         os.close(writer)
@@ -171,7 +176,7 @@ def goes_on_unread(shop: Shop) -> None:
 
 
 def makes_copies(shop: Shop) -> None:
-    """The last two copies are kept. A copy that fails its check gets no name of a day, and leaves the others as they are."""
+    """Checks that the last two copies are kept. A copy that fails its check doesn't get the name of a day, and doesn't change the others."""
     today = f"{datetime.date.today().isoformat()}.db"
     shop.backup.mkdir()
     for day in ("2026-01-30", "2026-01-31", "2026-02-01"):
@@ -198,11 +203,11 @@ def makes_copies(shop: Shop) -> None:
         expect("a part of a copy is deleted", (shop.backup / "new.db").exists(), False)
 
 
-# ---- the end of the script
+# ---- the exit of the script
 
 
 def gives_up(shop: Shop) -> None:
-    """Each case that needs an operator: status 82 after at most one start, and nothing is made."""
+    """Checks each case that needs an operator: status 82 after at most one start, and no new files."""
 
     def refused(what: str, line: str, **words: int) -> None:
         with Loop(shop, **words) as loop:
@@ -261,8 +266,8 @@ def main() -> None:
     trial(goes_on_unread)
     for shell in SHELLS:
         trial(ends_its_server, shell)
-    print("serve.sh: checked copies, the last of them kept; on after a kill, after a file in use and without a reader; status 82 in six cases;")
-    print(f"its server ends with it, by TERM, INT and HUP, in {', '.join(' '.join(shell) for shell in SHELLS)}")
+    print("serve.sh: checks its copies and keeps the last ones; continues after a kill, after a file in use and without a reader; status 82 in six cases;")
+    print(f"ends its server after TERM, INT and HUP, in {', '.join(' '.join(shell) for shell in SHELLS)}")
 
 
 if __name__ == "__main__":

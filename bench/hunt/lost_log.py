@@ -1,10 +1,11 @@
 #!/usr/bin/env python3
-"""Cuts the log of `persod serve` to nothing, deletes it, or moves the file away while the server runs, and looks whether the next start says so.
+"""Truncates or deletes the WAL, or moves the database file, while `persod serve` runs.
 
     bench/run lost_log
 
-The server can't see it: it goes on, and answers 200. After a kill nothing of its file is left, and the next start makes a new shop. Its first event line
-is `made`, and not `opened`, so that a person stops it before a card is made."""
+The running server can't see the loss: it continues, and responds with status 200. After a kill nothing of its file is left, and the next start
+creates a new database. The script checks that the first event line of this start is `made` instead of `opened`, so that an operator can stop it
+before a card is made. Exit status: 1 if it is not."""
 import os
 import pathlib
 import sys
@@ -43,7 +44,7 @@ def main() -> None:
     for loses in (cut, delete, move):
         with tempfile.TemporaryDirectory() as name:
             lost(sys.argv[1], pathlib.Path(name) / "shop.db", loses)
-    print("a log that was cut, one that was deleted, a file that was moved: the next start's line is `made`")
+    print("a truncated WAL, a deleted WAL, a moved file: the event line of the next start is `made`")
 
 
 if __name__ == "__main__":

@@ -1,10 +1,11 @@
 #!/usr/bin/env python3
-"""Starts `persod serve` on a missing file and a port that another program has, under several umasks.
+"""Checks the modes of new files under several umasks, and the event line for a port in use.
 
     bench/run new_files
 
-Each start ends with `device` and an event line that names the cause. The new file and its WAL have mode 0600, and an existing file keeps its mode. As root,
-the user nobody also tries port 80, if the system reserves it."""
+`persod serve` is started on a missing file and on a port that another program uses. Each start must exit with `device` and an event line that
+names the cause. The new file and its WAL must have mode 0600, and an existing file must keep its mode. As root, the script also tries port 80 as
+the user nobody, if the system reserves it. Exit status: 1 if a check fails."""
 import os
 import pathlib
 import shutil

@@ -1,11 +1,11 @@
 #!/usr/bin/env python3
-"""Looks whether the event lines of `persod serve` say which file it serves, and what that holds.
+"""Checks that the event lines of `persod serve` name the file that it serves, and its contents.
 
     bench/run opened
 
-A new file is `made`; one with replies is `opened`, with their number and whether a write-ahead log was taken in. A file whose log stayed behind and a path
-with a wrong letter are `made`, so that a person sees that no batch is there. Standard output is as without event lines, and without them standard error
-stays empty."""
+The line for a new file must be `made`. For a file with replies it must be `opened`, with their number and whether a WAL was read. For a file
+without its WAL, and for a mistyped path, it must be `made`, so that an operator notices that no batch is there. Standard output must be the same
+as without event lines. Without event lines, standard error must be empty. Exit status: 1 if a check fails."""
 import pathlib
 import shutil
 import sys
@@ -21,7 +21,7 @@ def started(program: str, database: pathlib.Path, turns: int = 1_000_000) -> Ser
 
 
 def first_line(program: str, database: pathlib.Path) -> str:
-    """The first event line of a start on a file, which is then killed."""
+    """Returns the first event line of a start on a file, and kills the server."""
     started(program, database).kill()
     events = lines(database.with_suffix(".events"))
     database.with_suffix(".events").unlink()
@@ -29,7 +29,7 @@ def first_line(program: str, database: pathlib.Path) -> str:
 
 
 def open_cards(port: int, count: int) -> None:
-    """So many openings by machines of their own."""
+    """Opens `count` sessions, each by a different machine."""
     for place in range(count):
         accepted(port, request(f"m{place}", 1, do="open", batch="B1", blank=FIRST + place))
 
@@ -47,8 +47,8 @@ def main() -> None:
         expect("a new file", lines(events), [f"made db={path(database)}"])
         events.unlink()
         shutil.copyfile(database, alone)
-        expect("a file without its log", first_line(program, alone), f"made db={path(alone)}")
-        expect("a path with a wrong letter", first_line(program, mistyped), f"made db={path(mistyped)}")
+        expect("a file without its WAL", first_line(program, alone), f"made db={path(alone)}")
+        expect("a mistyped path", first_line(program, mistyped), f"made db={path(mistyped)}")
         holds = "batches=1 sessions=4 replies=7"
         server = started(program, database, 1)
         accepted(server.port, request("office", 1, do="product", product="P1", max=255, low=0, check=False))
@@ -56,11 +56,11 @@ def main() -> None:
         expect("after a kill", lines(events), [f"opened db={path(database)} log=taken {holds}", "closed connections=1"])
         events.unlink()
         expect("the replies", len(kept(database)), 7)
-        expect("after an end", first_line(program, database), f"opened db={path(database)} log=none {holds}")
+        expect("after an exit", first_line(program, database), f"opened db={path(database)} log=none {holds}")
         server = Server(program, database, free_port(), 1)
         accepted(server.port, request("office", 1, do="product", product="P1", max=255, low=0, check=False))
         server.served()
-    print("made, made without its log, made by a wrong letter, opened with its log, opened without one: each as its line says")
+    print("a new file, a file without its WAL, a mistyped path, a file with its WAL, a file after an exit: each event line is right")
 
 
 if __name__ == "__main__":

@@ -1,10 +1,11 @@
 #!/usr/bin/env python3
-"""Feeds cards that are rejected for every cause that a feed can meet, and looks whether its event lines name each.
+"""Feeds cards that `persod feed` rejects for each possible cause, and checks its event lines.
 
     bench/run rejected
 
-Each `rejected` of standard output has one line, with the request's number, the code and the name of the refusal, or that the card's own status word
-spoiled it. The list's bad lines are named too, with their number and cause. Without PERSOD_LOG nothing stands on standard error but `refused 400`."""
+Each `rejected` on standard output must have one event line. The line has the request number, and the code and name of the refusal, or says that
+a status word of the card spoiled its session. Malformed input lines must be reported with their number and cause. Without PERSOD_LOG, standard
+error must contain only `refused 400`. Exit status: 1 if a check fails."""
 import pathlib
 import sys
 import tempfile
@@ -19,7 +20,7 @@ BAD = {"": "empty", "1001\r": "ends-in-cr", "1001 9000\r": "ends-in-cr", "1001  
 
 
 def stock(port: int) -> None:
-    """Batch B1 has two records, B2 is closed, and blank 1009 is discarded. Product P2 has a lot of its own."""
+    """Batch B1 has two records, B2 is closed, and blank 1009 is discarded. Product P2 has its own lot."""
     messages = [
         *set_up(20, 2),
         imported("office", 4, "B2", "P1", batch_file(1)),
@@ -34,7 +35,7 @@ def stock(port: int) -> None:
 
 
 class Machine:
-    """Feeds a batch with a new boot each time."""
+    """Feeds a batch with a new boot number each time."""
 
     def __init__(self, program: str, port: int) -> None:
         self.program, self.port, self.boot = program, port, 0
@@ -49,12 +50,12 @@ class Machine:
 
 
 def refusals(machine: Machine) -> int:
-    """One feed of a batch, in which each card is rejected by another rule. How many lines there were."""
+    """Feeds a batch in which each card is rejected for another reason. Returns the number of event lines."""
     cards = [(9999, 58, "blank-unknown"), (OTHER, 59, "blank-of-other-product"), (FIRST + 9, 60, "blank-used")]
     last = [(FIRST + 2, 62, "nothing-waiting")]
     typed = "".join(f"{serial}\n" for serial, *_ in cards) + f"{FIRST} 6A80\n{FIRST + 1} 9000 6F00\n{FIRST + 2}\n"
     status, printed, errors = machine.feed("B1", typed)
-    expect("the ends", [line for line in printed if line.endswith(("good", "rejected"))], [
+    expect("the results", [line for line in printed if line.endswith(("good", "rejected"))], [
         f"{serial} rejected" for serial in (9999, OTHER, FIRST + 9, FIRST, FIRST + 1, FIRST + 2)
     ])
     wanted = [f"rejected serial={serial} number={machine.number(3 + place)} code={code} name={rule}" for place, (serial, code, rule) in enumerate(cards)]
@@ -81,7 +82,7 @@ def main() -> None:
             expect(f"the line of {line!r}", [text for text in errors if not text.startswith("rejected ")], [f"bad-line line=3 cause={cause}", "refused 400"])
         expect("without event lines", machine.feed("B9", f"{FIRST + 3}\n\n", ""), (1, [f"{FIRST + 3} rejected"], ["refused 400"]))
         server.kill()
-    print(f"{seen} rejected cards and {len(BAD)} bad lines of a list, each with its line")
+    print(f"{seen} rejected cards and {len(BAD)} malformed input lines, each with its event line")
 
 
 if __name__ == "__main__":

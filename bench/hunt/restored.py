@@ -1,11 +1,12 @@
 #!/usr/bin/env python3
-"""Goes back to a copy by the commands of docs/OPERATING.md, beside the log of a server that was killed, and looks what the next start finds.
+"""Restores a backup with the commands of docs/OPERATING.md, and checks what the next start finds.
 
     bench/run restored
 
-The copy is made after `served N`. The server goes on, opens four cards, finishes one, and is killed, so a newer log lies beside the file. The page's commands
-move both away, put the copy in their place, and list the lost work as requests: the four blanks, and the record of the finished card. The next start's event
-line says what the copy holds, and C's SQLite finds the file whole. What comes of the copy beside the newer log is printed."""
+The backup is made after `served N`. Then the server opens four cards, finishes one, and is killed, so a newer WAL is next to the file. The
+commands of the page move both away, restore the backup, and list the lost work as requests: the four blanks, and the record of the finished
+card. The event line of the next start must match the backup, and the SQLite library must find the file intact. The script also restores the
+backup next to the newer WAL, and prints the result. Exit status: 1 if a check fails."""
 import os
 import pathlib
 import shutil
@@ -21,7 +22,7 @@ from small_shop import FIRST, accepted, kept, stock
 
 
 def killed(program: str, folder: pathlib.Path) -> pathlib.Path:
-    """A file whose server was killed, and a copy of it from before, where the page has it."""
+    """Makes a file whose server was killed, and an earlier copy of it at the place that the page gives."""
     database, backup = folder / "shop.db", folder / "backup"
     server = Server(program, database, free_port(), 3)
     stock(server.port, 10, 5)
@@ -37,7 +38,7 @@ def killed(program: str, folder: pathlib.Path) -> pathlib.Path:
 
 
 def restored_by_page(program: str, folder: pathlib.Path) -> list[str]:
-    """What the page's commands print, one after the other."""
+    """Returns the outputs of the page's commands."""
     text = (TOP / "docs" / "OPERATING.md").read_text().replace("/srv/persod", str(TOP))
     found = [block for block in blocks(text) if "mkdir old" in block.text() or "lost.sql" in block.text()]
     (folder / "bin").mkdir()
@@ -52,7 +53,7 @@ def restored_by_page(program: str, folder: pathlib.Path) -> list[str]:
 
 
 def start(program: str, database: pathlib.Path) -> str:
-    """The first event line of a start, or how it ended."""
+    """Returns the first event line of a start, or how it ended."""
     events = database.with_suffix(".events")
     try:
         Server(program, database, free_port(), 1, events=events).kill()
@@ -66,11 +67,11 @@ def main() -> None:
     with tempfile.TemporaryDirectory() as name:
         database = killed(program, pathlib.Path(name))
         *moved, report, listed = restored_by_page(program, pathlib.Path(name))
-        expect("what is printed at first", moved, [""] * 3)
+        expect("the output of the first commands", moved, [""] * 3)
         expect("the report", report.splitlines()[:4], ["batch B1", "product P1", "state open", "record R1 waiting 0 -"])
         lost = [f'{{"do":"discard","blank":{FIRST + place}}}' for place in range(4)]
         lost.append('{"do":"withdraw","batch":"B1","record":"R3"}')
-        expect("what lost.sql prints", listed, "")
+        expect("the output of lost.sql", listed, "")
         expect("the requests", (pathlib.Path(name) / "requests").read_text().splitlines(), lost)
         expect("restored", start(program, database), f"opened db={path(database)} log=none batches=1 sessions=0 replies=3")
         expect("the replies", len(kept(database)), 3)
@@ -78,7 +79,7 @@ def main() -> None:
         database = killed(program, pathlib.Path(name))
         shutil.copyfile(pathlib.Path(name) / "backup" / f"{DAY}.db", database)
         beside = start(program, database)
-    print(f"restored by the page: as the copy was; beside the newer log: {beside}")
+    print(f"restored with the commands of the page: the contents of the backup; restored next to the newer WAL: {beside}")
 
 
 if __name__ == "__main__":

@@ -1,11 +1,11 @@
 #!/usr/bin/env python3
-"""Makes 200 cards by one `persod feed` while the server is stopped ten times, and each start of it takes ten seconds more.
+"""Makes 200 cards with one `persod feed` while the server is killed ten times and starts slowly.
 
     bench/run slow_starts [--cards N] [--starts N] [--seconds N]
 
-A start of a large file takes so long. The server is stopped by a kill after every so many cards, in the middle of the next one. The feed has to end by
-itself with status 0, each card is good, and the report and the accounts say the same. Its event lines say which requests were asked again: each start is
-seen by some, and none was asked ten times."""
+Each start takes ten additional seconds, as with a large file. The server is killed at regular intervals, in the middle of a card. The feed must
+exit with status 0, all cards must be good, and the accounts must agree. The event lines report the repeated requests: some for each start, and
+none ten times. Exit status: 1 if a check fails."""
 import argparse
 import json
 import pathlib
@@ -23,7 +23,7 @@ AGAIN = re.compile(r'again number=\d+ tries=(\d+)( reply="[^"]*")?')
 
 
 class SlowServer(Server):
-    """A server whose start takes some seconds more."""
+    """A server that takes some additional seconds to start."""
 
     seconds = 10
 
@@ -32,7 +32,7 @@ class SlowServer(Server):
 
 
 class Starts(threading.Thread):
-    """Stops the server and starts it slowly, each time after it is asked to."""
+    """Kills the server and starts it slowly, whenever it is told to."""
 
     def __init__(self, program: str, database: pathlib.Path, server: Server) -> None:
         super().__init__(daemon=True)
@@ -48,7 +48,7 @@ class Starts(threading.Thread):
 
 
 def feed(program: str, port: int, cards: int, each: int, starts: Starts) -> tuple[int, list[str], list[str]]:
-    """Feeds so many cards, and has the server stopped after each so many. The status, what was printed, and the event lines."""
+    """Feeds `cards` cards, and has the server killed after every `each` cards. Returns the exit status, the output, and the event lines."""
     words = [program, "feed", "--port", str(port), "--machine", "m1", "--boot", str(int(time.time())), "--batch", "B1"]
     with tempfile.TemporaryFile("w+") as typed, tempfile.TemporaryFile("w+") as errors:
         typed.writelines(f"{FIRST + place}\n" for place in range(cards))
@@ -82,7 +82,7 @@ def main() -> None:
         starts.start()
         each = -(-given.cards // (given.starts + 1))
         status, printed, errors = feed(given.program, server.port, given.cards, each, starts)
-        expect("the feed's end", (status, [line for line in errors if not AGAIN.fullmatch(line)]), (0, []))
+        expect("the feed's exit", (status, [line for line in errors if not AGAIN.fullmatch(line)]), (0, []))
         ends = [line.split(" ") for line in printed if len(line.split(" ")) == 2]
         expect("the cards", ends, [[str(FIRST + place), "good"] for place in range(given.cards)])
         account = json.loads((parts(exchange(server.port, get("/batch/B1"))) or (0, b"{}"))[1])
@@ -90,10 +90,10 @@ def main() -> None:
         expect("the starts", starts.count, given.starts)
         tries = [int(line[1]) for line in map(AGAIN.fullmatch, errors) if line]
         if not given.starts <= len(tries) <= 10 * given.starts:
-            expect("the lines of requests that were asked again", tries, "some for each start")
+            expect("the lines of repeated requests", tries, "some for each start")
         starts.server.kill()
     took = time.monotonic() - begun
-    print(f"{given.cards} good cards through {given.starts} starts of {given.seconds} s; {len(tries)} tries again, at most {max(tries)} of one; {took:.0f} s")
+    print(f"{given.cards} good cards during {given.starts} starts of {given.seconds} s; {len(tries)} repeats, at most {max(tries)} of a request; {took:.0f} s")
 
 
 if __name__ == "__main__":

@@ -1,11 +1,12 @@
 #!/usr/bin/env python3
-"""Starts a machine with a boot that it had before, and looks whether its event lines, and those of the server, say so.
+"""Starts a machine with a used boot number, and checks the event lines of the feed and the server.
 
     bench/run used_boot
 
-`persod feed` makes a card, and starts again with the same boot and the next card. Its first two requests are repeats, byte by byte, and get the replies
-that are kept. The third is another one under a used number: refused 72, so the card is rejected and a line says that the boot was used. With a lower boot
-it is 73. bench/demo/driver.py, with the boot of the feed and with one of its own twice, is refused at its first request."""
+`persod feed` makes a card, and starts again with the same boot number and the next card. Its first two requests are repeats and get the kept
+replies. The third is different, so it is refused with 72, the card is rejected, and an event line reports the used boot number. With a lower
+boot number the refusal is 73. bench/demo/driver.py, with the boot number of the feed and with its own one twice, must be refused at its first
+request. Exit status: 1 if a check fails."""
 import pathlib
 import subprocess
 import sys
@@ -51,7 +52,7 @@ def main() -> None:
         expect("the driver with a new one", driven(server.port, 8)[0], 0)
         expect("the driver with that again", driven(server.port, 8), (1, "m1: boot 8 was used before: use a higher one"))
         server.kill()
-    print("a boot that was used, and a lower one: seen by the lines of feed and server, and by the driver at its first request")
+    print("a used boot number and a lower one: reported by the feed, the server, and the driver at its first request")
 
 
 if __name__ == "__main__":
