@@ -1,5 +1,7 @@
 #!/usr/bin/env python3
-"""Changes one thing in sound files, and checks that each changed file is accepted or refused as docs/TABLES.md says.
+"""Changes one thing in sound files, and checks that each changed file is accepted or refused correctly.
+
+The expected verdicts are those of docs/TABLES.md.
 
     bench/run damaged
 

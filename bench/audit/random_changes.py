@@ -1,5 +1,5 @@
 #!/usr/bin/env python3
-"""Makes one random change in each of many sound files, and compares the verdicts of auditor.py and `persod`.
+"""Makes one random change in each of many sound files, and compares auditor.py and `persod`.
 
     bench/run random_changes [--cases N] [--seed TEXT] [--keep FOLDER]
 
@@ -7,7 +7,7 @@ A change replaces a cell by a near or a far value of its type, deletes a row, du
 checks neither constraints nor references meanwhile. A change that has no effect, or that a key forbids, is drawn again.
 
 The files are those of contents.py, with the tables and indices of the server. One in eight has the tables in another order or of an earlier
-schema version. If the verdicts on a file differ, it is kept in FOLDER. Without a program, the script counts the verdicts of auditor.py. Exit
+schema version. If the two verdicts on a file differ, it is kept in FOLDER. Without a program, the script counts the verdicts of auditor.py. Exit
 status: 1 if any verdicts differ.
 """
 import argparse

@@ -1,10 +1,10 @@
 #!/usr/bin/env python3
-"""Makes sound database files by plain SQL, and some with foreign tables, and checks which ones are accepted.
+"""Makes sound files, and files with other tables, and checks which ones are accepted.
 
     bench/run sound_files
 
-The sound files have the tables of each schema version, in several orders, and after VACUUM and .dump. Both auditor.py and `persod` judge the
-files. To use only auditor.py, run `python3 bench/audit/sound_files.py` without a program.
+The files are made by plain SQL. The sound files have the tables of each schema version, in several orders, and after VACUUM and .dump. Both
+auditor.py and `persod` judge the files. To use only auditor.py, run `python3 bench/audit/sound_files.py` without a program.
 
 An accepted file must keep its contents, in the tables of version 3 afterwards. A refused file must not change. Exit status: 1 if a verdict is
 wrong.

@@ -1,10 +1,11 @@
 #!/usr/bin/env python3
-"""Reads a server's database file with Python's sqlite3 (the SQLite library), and checks that it is intact and has the documented rows.
+"""Checks with the SQLite library that a database file is intact and has the documented rows.
 
     bench/run tables_read
 
-The program of measure/programs/measure_tables.txt serves the set-up of docs/PROTOCOL.md, a spoiled card, its remake, a good card, and a remake
-that is refused. The expected rows are written by hand, from PROTOCOL.md and TABLES.md. Exit status: 1 if the file or a row is wrong.
+Python's sqlite3 reads the file. The program of measure/programs/measure_tables.txt serves the set-up of docs/PROTOCOL.md, a spoiled card, its
+remake, a good card, and a remake that is refused. The expected rows are written by hand, from PROTOCOL.md and TABLES.md. Exit status: 1 if the
+file or a row is wrong.
 """
 import pathlib
 import sqlite3

@@ -1,5 +1,5 @@
 #!/usr/bin/env python3
-"""Runs the worked exchanges and messages against `persod serve`, and compares the responses byte by byte.
+"""Runs the worked exchanges and messages against `persod serve`, and compares the responses.
 
     bench/run exchanges [FILE..]
 
@@ -8,8 +8,7 @@ file and a free port, in up to four ways:
 
 - whole
 - in pieces of 7 bytes, if the case has at most 100 messages of at most 4,096 bytes
-- by `curl`, if the case is in an .exchange file, has at most 100 requests, and `curl` can send all
-  of them
+- by `curl`, if the case is in an .exchange file, has at most 100 requests, and `curl` can send all of them
 - cut after every byte before each whole message, if the case is marked `cut`
 
 Each server must exit after its last connection with `served N` and status 0, and the SQLite library must find its file intact. Exit status: 1 if

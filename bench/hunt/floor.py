@@ -1,9 +1,9 @@
 #!/usr/bin/env python3
-"""Makes 1,000 cards with 20 `persod feed` processes over an unreliable network, with kills and power failures.
+"""Makes 1,000 cards with `persod feed` over an unreliable network, with kills and power failures.
 
     bench/run floor [--seed N] [--cards N] [--machines N]
 
-A simulated network connects the machines and the server. The seed decides the fate of each message. It passes, is lost, arrives twice, arrives
+A simulated network connects 20 machines and the server. The seed decides the fate of each message. It passes, is lost, arrives twice, arrives
 late (instead of the message or in addition to it), is cut, or its reply is lost or cut. The server is killed while it handles messages, and also
 exits after a number of connections. It is always started again on its file. Machines lose power, and restart with their next boot number. The
 inserted card is then removed or inserted again. An office uses the same network to remake failed records, until each record of the batch has its

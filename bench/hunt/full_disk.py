@@ -180,7 +180,7 @@ def work(program: str, shop: FullShop, rounds: int, seed: str) -> None:
     with tempfile.TemporaryDirectory() as folder:
         check_same(program, shop.server, shop.database, shop, pathlib.Path(folder), OTHER)
     print(
-        f"{shop.rounds} times full, {shop.refused} more requests with status 503, {shop.starts} of {shop.rounds // 3} starts on a full disk listened; "
+        f"{shop.rounds} times full, {shop.refused} more responses 503, {shop.starts} of {shop.rounds // 3} starts on a full disk listened; "
         f"{len(shop.sent)} requests, {machine.good} good cards; the same as with space, seed {seed}"
     )
 

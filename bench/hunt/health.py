@@ -1,5 +1,5 @@
 #!/usr/bin/env python3
-"""Tests the health check service/health.sh: its exit status, output, state file, and rows in the database.
+"""Tests the health check service/health.sh: exit status, output, state file, and database rows.
 
     bench/run health [--checks N]
 

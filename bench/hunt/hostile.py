@@ -1,5 +1,5 @@
 #!/usr/bin/env python3
-"""Opens 20,000 connections with random and hostile bytes to `persod serve` while four machines make cards.
+"""Opens 20,000 connections with hostile bytes to `persod serve` while four machines make cards.
 
     bench/run hostile [--folder FOLDER] [--connections N] [--slow N] [--patience N] [--seed N]
 

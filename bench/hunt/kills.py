@@ -1,5 +1,5 @@
 #!/usr/bin/env python3
-"""Kills `persod serve` 200 times while machines work, and compares the result with a run without kills.
+"""Kills `persod serve` 200 times while machines work, and compares it with a run without kills.
 
     bench/run kills [--folder FOLDER] [--kills N] [--machines N] [--seed N]
 

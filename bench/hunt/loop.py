@@ -266,7 +266,7 @@ def main() -> None:
     trial(goes_on_unread)
     for shell in SHELLS:
         trial(ends_its_server, shell)
-    print("serve.sh: checks its copies and keeps the last ones; continues after a kill, after a file in use and without a reader; status 82 in six cases;")
+    print("serve.sh: checks and keeps copies; continues after a kill, after a file in use and without a reader; status 82 in six cases;")
     print(f"ends its server after TERM, INT and HUP, in {', '.join(' '.join(shell) for shell in SHELLS)}")
 
 

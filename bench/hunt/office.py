@@ -10,16 +10,16 @@ PART is one of:
 - `network`: N commands go over an unreliable network to a server that is often killed. The tool is
   killed at random moments, and each command is repeated until it has printed its result. Machines
   spoil cards or disappear, so that there are records to remake and sessions to end.
-- `again`: a record that fails again is remade again by the same words, even if a remake got no
-  reply. A reset that arrives after its machine has started again ends no new session.
+- `again`: a record that fails again is remade again by the same command, even if a remake got no
+  reply. A reset that arrives after its machine has restarted doesn't end the new session.
 - `refusals`: each refusal that the office can get is printed with its sentence, and the place of
   each fault of a batch file is right. Codes and names are those of PROTOCOL.md and PROFILE.md.
 - `waits`: --wait shows the progress of a batch that `persod feed` makes, to its end. A second call
   with the same state folder is refused.
 
-Each command must print the result of a first effect: `created` and not `known`, `discarded` and not
-refusal 60, `waiting` and not 68. The accounts, `shopbook`, and the number of remakes in the file
-must agree with the commands."""
+Each command must print the result of a first effect: `created` and not `known`, `discarded` and
+not refusal 60, `waiting` and not 68. The accounts, `shopbook`, and the number of remakes in the
+file must agree with the commands. Exit status: 1 if a check fails."""
 import argparse
 import importlib.util
 import json
@@ -106,7 +106,7 @@ class Tool:
         return self.run(*words, by=("-B", "-c", KILLED, str(step)))
 
     def done(self, *words: object) -> str:
-        """The output of a command that must be accepted."""
+        """Returns the output of a command that must be accepted."""
         ran = self.run(*words)
         expect(f"the status of {words}: {ran.printed}{ran.errors}", ran.status, 0)
         return without_session(ran.printed)
@@ -174,7 +174,7 @@ class Hall:
 
 
 def stock(hall: Hall, records: int) -> None:
-    """Product P0, lot L0 of the blanks 1000 to 100999, and batch B0."""
+    """Creates product P0, lot L0 with the blanks 1000 to 100999, and batch B0."""
     hall.ask("hunt", do="product", product="P0", max=255, low=0, check=False)
     hall.ask("hunt", do="lot", lot="L0", product="P0", first=LOT, count=100_000)
     hall.bring("B0", batch_file(records))
@@ -185,7 +185,7 @@ def count_remakes(database: pathlib.Path) -> int:
 
 
 def book(shopbook: str, *words: object) -> list[dict]:
-    """The lines of a subcommand of shopbook."""
+    """Returns the lines of a subcommand of shopbook."""
     ran = subprocess.run([shopbook, *map(str, words), "--json"], capture_output=True, text=True)
     expect(f"shopbook {words}: {ran.stderr}", ran.returncode, 0)
     return [json.loads(line) for line in ran.stdout.splitlines()]
@@ -201,7 +201,7 @@ def is_sound(shopbook: str, database: pathlib.Path) -> None:
 
 
 class Kind(NamedTuple):
-    """A kind of command: what comes before trial k, its words, and the lines that it prints."""
+    """A kind of command: the preparation of trial `k`, its arguments, and its expected output."""
 
     before: Callable[[int], None]
     words: Callable[[int], list]
@@ -209,7 +209,7 @@ class Kind(NamedTuple):
 
 
 class Kinds:
-    """Each kind of command. Trial k of a kind has objects of its own."""
+    """All kinds of commands. Each trial `k` of a kind has its own objects."""
 
     def __init__(self, hall: Hall, folder: pathlib.Path) -> None:
         self.hall, self.file = hall, folder / "one.csv"
@@ -276,7 +276,7 @@ def steps(given: argparse.Namespace, folder: pathlib.Path) -> str:
 
 
 def killed_and_again(tool: Tool, name: str, kind: Kind, k: int, counts: Counter) -> bool:
-    """Kills a command before its step k, and repeats it. Returns true if it has fewer steps."""
+    """Kills a command before its step `k`, and repeats it. Returns true if it has fewer steps."""
     kind.before(k)
     first, wanted = tool.killed_at(k - 1, *kind.words(k)), kind.printed(k)
     if first.status == 0:
@@ -289,7 +289,7 @@ def killed_and_again(tool: Tool, name: str, kind: Kind, k: int, counts: Counter)
     if came != (0, wanted) and without_session(first.printed) == wanted:
         counts["after the result"] += 1
         return False
-    expect(f"{name}, killed before step {k}, and again: {again.errors}", came, (0, wanted))
+    expect(f"{name}, killed before step {k}, and repeated: {again.errors}", came, (0, wanted))
     return False
 
 
@@ -320,9 +320,9 @@ def network(given: argparse.Namespace, folder: pathlib.Path) -> str:
 def commands_over(
     trial: floor.Floor, all_kinds: dict[str, Kind], tool: Tool, count: int
 ) -> Counter:
-    """Runs commands of all kinds, and returns how many of each.
+    """Runs commands of all kinds, and returns the number of each kind.
 
-    A killed command may have printed its result already. Then the next one prints it again."""
+    A killed command may have printed its result already. Then the next command prints it again."""
     draw, done, before = trial.draw("commands"), Counter(), ""
     for _ in range(count):
         name = draw.choice(list(all_kinds))
@@ -332,7 +332,7 @@ def commands_over(
         wanted = kind.printed(k)
         came = repeated(trial, tool, draw, kind.words(k), wanted)
         if came not in (wanted, before + wanted):
-            sys.exit(f"{kind.words(k)} printed {came!r}, and not {wanted!r}")
+            sys.exit(f"{kind.words(k)} printed {came!r}, expected {wanted!r}")
         before = wanted
     return done
 
@@ -388,8 +388,8 @@ def check_book(shopbook: str, database: pathlib.Path, done: Counter) -> None:
 
 
 class Gate(threading.Thread):
-    """A proxy. `fate` decides whether it passes or loses a message, or only its reply. A number is
-    the status of its own response."""
+    """A proxy. `fate` decides whether a message passes or is lost, or only its reply is lost. A
+    number is the status of the proxy's own response."""
 
     def __init__(self, port: int, fate: Callable[[bytes], str]) -> None:
         super().__init__(daemon=True)
@@ -414,7 +414,8 @@ class Gate(threading.Thread):
 
 
 class Switch:
-    """The fate of messages that contain `part`. All others pass, and resets under number BOOT."""
+    """The fate of messages that contain `part`. All other messages pass, and so do resets under
+    number BOOT."""
 
     def __init__(self, part: bytes) -> None:
         self.part, self.now = part, "passes"
@@ -439,7 +440,7 @@ def again(given: argparse.Namespace, folder: pathlib.Path) -> str:
 
 
 def remade_again(hall: Hall, folder: pathlib.Path) -> list[bytes]:
-    """Remakes a record by the same words: with a reply, without one, and after that."""
+    """Remakes a record with the same command: with a reply, without one, and after that."""
     switch = Switch(b'"do":"remake"')
     gate = Gate(hall.port, switch)
     tool, words = Tool(folder / "remakes", gate.port), ("remake", "B0", "R1")
@@ -493,7 +494,7 @@ def states_of(account: dict) -> tuple[int, int, int]:
 
 
 def is_allowed(message: bytes) -> bool:
-    """Whether service/persod.conf lets the office send this request."""
+    """Returns whether service/persod.conf lets the office send this request."""
     head, _, body = message.decode().partition("\r\n\r\n")
     text = (TOP / "service" / "persod.conf").read_text()
     paths = [re.compile(found.replace("(?<", "(?P<")) for found in re.findall(r"~ (\^\S+) {", text)]
@@ -510,7 +511,8 @@ GOOD, AID, ROW = "0101027000", "F00000000101", "R1,F00000000101,1,0,0,"
 SECOND = ROW.replace("R1", "R2")
 LARGE = "FF4000" + "00" * 16_384
 R1, DGI = 'row 2, line 2, record "R1"', "field 6 (dgi)"
-# The code, what the tool prints of the place, and the rows after the header, or a whole file.
+# Each fault: the code, the place that the tool prints, and the rows after the header, or a whole
+# file.
 FAULTS: list[tuple[int, str, Union[list[str], bytes]]] = [
     (21, f"{R1}, rows 2 (line 2) and 3 (line 3)", [ROW + GOOD, f"R1,{AID},1,1,0,0102027000"]),
     (21, f"{R1}, rows 2 (line 2) and 4 (line 4)",
@@ -553,7 +555,7 @@ OBJECTS = [
 
 
 def table() -> dict[int, tuple[str, str]]:
-    """The tool's table of refusals."""
+    """Returns the tool's table of refusals."""
     described = importlib.util.spec_from_file_location("tool", TOOL)
     sys.modules["tool"] = importlib.util.module_from_spec(described)
     described.loader.exec_module(sys.modules["tool"])
@@ -561,7 +563,7 @@ def table() -> dict[int, tuple[str, str]]:
 
 
 def of_pages() -> dict[int, str]:
-    """The codes and names in PROTOCOL.md and PROFILE.md."""
+    """Returns the codes and names in PROTOCOL.md and PROFILE.md."""
     pages = [(TOP / "docs" / page).read_text() for page in ("PROTOCOL.md", "PROFILE.md")]
     rows = re.findall(r"^\| (\d\d) \| ([a-z][a-z-]+) \|", "".join(pages), re.M)
     rows += re.findall(r'^\| `(\d{3}) .*"refused":"([a-z-]+)"', pages[0], re.M)
@@ -607,7 +609,7 @@ class Refusals:
         self.refused(55, "batch", "B0", "P0", file)
 
     def of_files(self) -> None:
-        """Each fault, without and with `persod plan`."""
+        """Tries each fault without and with `persod plan`."""
         self.tool.done("product", "PC", "--check")
         file = self.folder / "fault.csv"
         for code, place, rows in FAULTS:
@@ -617,7 +619,7 @@ class Refusals:
                 self.refused(code, "batch", "B1", "PC", file, tool=tool, place=place)
 
     def of_numbers(self) -> None:
-        """Another program has used the next number, or releases that of a pending request."""
+        """Another program uses the next number, or releases the number of a pending request."""
         state = self.tool.state()
         number = state["numbers"]["office"] + 10**12
         text = json.dumps({**state, "numbers": {"office": number}})
@@ -636,7 +638,7 @@ class Refusals:
         Tool(self.folder / "new", self.hall.port).done("discard", LOT + 13)
 
     def of_messages(self) -> None:
-        """Responses of a proxy to new requests and to a repeat, and a file that is too large."""
+        """Tries responses of a proxy to new requests and to a repeat, and a file that is too large."""
         for code in 400, 403, 404, 405, 431:
             tool = self.through(lambda message, code=code: str(code))[1]
             self.refused(code, "discard", LOT + 20, tool=tool)
@@ -655,7 +657,7 @@ class Refusals:
         expect("once more", tool.done("discard", LOT + 20), f"blank {LOT + 20}: discarded\n")
 
     def of_limit(self) -> None:
-        """Products P0 and PC exist."""
+        """Exceeds the maximum number of products. P0 and PC exist already."""
         for k in range(254):
             self.hall.ask("hunt", do="product", product=f"X{k}", max=255, low=0, check=False)
         self.refused(71, "product", "X-last")
@@ -708,7 +710,8 @@ def waits(given: argparse.Namespace, folder: pathlib.Path) -> str:
 
 
 def progress(program: str, hall: Hall, tool: Tool, file: pathlib.Path) -> int:
-    """Imports a batch with --wait, and makes its 20 cards, one of them bad."""
+    """Imports a batch with --wait, and makes its 20 cards, one of them spoiled. Returns the number
+    of lines."""
     file.write_bytes(batch_file(20))
     waiting = tool.start("batch", "B1", "P0", file, "--wait", "--every", "0.1")
     wait_for(lambda: tool.run("account", "B1").status == 0)
@@ -730,7 +733,7 @@ def wait_for(is_true: Callable[[], bool]) -> None:
         if is_true():
             return
         time.sleep(0.05)
-    sys.exit("nothing came")
+    sys.exit("still waiting after 30 s")
 
 
 PARTS = {

@@ -4,24 +4,24 @@
     bench/run pcsc [--cards N] [--seed N]
 
 Two machines share a batch of realistic records. Their cards use T=0 and T=1 in turn. Some cards
-answer 61XX, spoil their session, are mute, or are pulled out before or after an answer. Some can't
-be read, and some belong to no lot, to another product, or are discarded. The server and the drivers
-are killed at random, and at chosen commands and moves of a card. Replies are lost. The office has
-each failed record made again, until all of them are good.
+answer 61XX, spoil their session, are mute, or are pulled out before or after an answer. Some
+can't be read, and some belong to no lot or to another product, or are discarded. The server and
+the drivers are killed at random, and at chosen commands and moves of a card. Replies are lost.
+The office remakes each failed record, until all records are good.
 
 Then each card is judged by what it received:
 
 - A good card received exactly the commands of one record, in order, and has the data of this record
-  in the batch file. No customer has two good cards, and the trays agree with the server.
-- Any other card with a session received the beginning of a record, and is among the rejects.
-- A card without a session received nothing, and is free to be fed again unless it is a stray one.
+  in the batch file. No record has two good cards, and the trays agree with the server.
+- Any other card with a session received the first commands of a record, and is among the rejects.
+- A card without a session received nothing, and can be fed again unless it is a stray one.
 - `shopbook`, the report and the accounts agree with the trays about each blank.
 
-In the end faults are planted in what was found, and the judge has to find each of them.
+At the end the script plants faults in the evidence, and the judge must find each of them.
 
-Needs Debian's pcscd, libpcsclite1, vsmartcard-vpcd and iproute2, and root or user namespaces: all
-runs in namespaces of its own, since vpcd accepts cards from the network. If something is missing,
-the exit status is 77, and ./soak prints `skipped`."""
+Requires Debian's pcscd, libpcsclite1, vsmartcard-vpcd and iproute2, and root or user namespaces.
+Everything runs in its own namespaces, because vpcd accepts cards from the network. Exit status:
+1 if there is a fault; 77 if something is missing, and ./soak then prints `skipped`."""
 import _thread
 import argparse
 import atexit
@@ -69,11 +69,11 @@ SECONDS = 900
 STOPS = ("6A80", "6283", "6F00", "6C05", "6985")
 
 
-# ---- what it needs
+# ---- requirements
 
 
 def lacking() -> list[str]:
-    """What this machine lacks."""
+    """Returns what this machine lacks."""
     found = [name for name in ("pcscd", "ip", "unshare") if not shutil.which(name, path=PATH)]
     found += [] if VPCD.exists() else ["vpcd"]
     try:
@@ -86,7 +86,8 @@ def lacking() -> list[str]:
 
 
 def namespaces() -> list[str]:
-    """The command that gives a program its own network, mounts and processes, which end with it."""
+    """Returns the command that gives a program its own network, mounts and processes, which end
+    with it."""
     mapped = [] if os.geteuid() == 0 else ["--map-root-user"]
     return ["unshare", "--net", "--mount", "--pid", "--fork", "--kill-child", *mapped]
 
@@ -102,7 +103,7 @@ def prepare() -> None:
 
 
 class Floor:
-    """What all parts share."""
+    """Shared by all parts."""
 
     def __init__(self, given: argparse.Namespace, folder: pathlib.Path) -> None:
         self.persod, self.seed, self.folder = given.persod, given.seed, folder
@@ -114,7 +115,7 @@ class Floor:
 
 
 class Keeper(threading.Thread):
-    """Starts the server again whenever it ends."""
+    """Starts the server again whenever it exits."""
 
     def __init__(self, floor: Floor) -> None:
         super().__init__(daemon=True)
@@ -171,7 +172,7 @@ class Station(threading.Thread):
             self.process.wait()
 
     def run(self) -> None:
-        """Ends after a driver that ends by itself once all records are good."""
+        """Starts drivers until one exits by itself after all records are good."""
         self.magazine.start()
         said = self.floor.folder / f"{self.machine}.said"
         while not self.floor.wrong:
@@ -188,8 +189,8 @@ class Station(threading.Thread):
             time.sleep(0.3 if status == 0 else 0)
 
     def look_at(self, status: int, lines: list[str]) -> None:
-        """Looks at the end of a driver, and at the last lines that it printed. On a slow machine
-        100 tries may pass while the server starts."""
+        """Checks the exit of a driver and the last lines that it printed. On a slow machine 100
+        tries may pass while the server starts."""
         if status == 1 and ": no reply to number " in lines[-1]:
             self.floor.counts["drivers without a reply"] += 1
         elif status not in (0, -9) or not self.magazine.is_alive():
@@ -201,7 +202,7 @@ def reader_name(place: int) -> str:
 
 
 def faults_of(draw: random.Random) -> dict[object, str]:
-    """What goes wrong with a card: nothing with a third of the cards. Many answer 61XX."""
+    """Returns the faults of a card. A third of the cards have none. Many answer 61XX."""
     faults: dict[object, str] = {place: "6110" for place in range(60) if draw.random() < 0.1}
     place, pick = draw.choice((0, 1, 2, 3, draw.randrange(40))), draw.random()
     if pick < 0.12:
@@ -216,7 +217,7 @@ def faults_of(draw: random.Random) -> dict[object, str]:
 
 
 def cards_for(floor: Floor, place: int, count: int) -> list[Card]:
-    """The cards of a machine. Each twelfth one is a stray, or can't be read."""
+    """Returns the cards of a machine. One in twelve is a stray one or can't be read."""
     cards = []
     for number in range(count):
         draw, serial = floor.draw("card", place, number), FIRST + place * count + number
@@ -265,16 +266,16 @@ class Bureau:
         self.office.send(imported("office", number, "B1", "P1", self.batch.encode()))
 
     def read(self, target: str) -> Any:
-        """An account, or the text of a report."""
+        """Returns an account, or the text of a report."""
         return self.office.shop.ask("", 0, get(target), is_first=False)[1]
 
     def records(self) -> list[list[str]]:
-        """The records of the close report: name, state, sessions, blank."""
+        """Returns the records of the close report: name, state, sessions, blank."""
         lines = self.read("/batch/B1/report").splitlines()
         return [line.split(" ")[1:] for line in lines if line.startswith("record ")]
 
     def make_all(self) -> None:
-        """Has failed records made again, and kills at random, until all records are good."""
+        """Remakes failed records, and kills at random, until all records are good."""
         draw, end = self.floor.draw("kills"), time.monotonic() + SECONDS
         next_kill = time.monotonic() + draw.uniform(2, 6)
         while not self.floor.wrong:
@@ -286,7 +287,7 @@ class Bureau:
                     self.office.ask(do="remake", batch="B1", record=record)
                     self.floor.counts["remakes"] += 1
             if time.monotonic() > end:
-                self.floor.wrong.append(f"after {SECONDS} s some aren't good: {records}")
+                self.floor.wrong.append(f"after {SECONDS} s some records aren't good: {records}")
             if time.monotonic() > next_kill:
                 draw.choice(self.stations).kill(draw.choice(("driver", "server")))
                 next_kill = time.monotonic() + draw.uniform(2, 6)
@@ -325,7 +326,7 @@ class Bureau:
         )
 
     def book(self, *words: str) -> list[list[str]]:
-        """The lines of a subcommand of `shopbook`, in their columns."""
+        """Returns the lines of a subcommand of `shopbook`, split into columns."""
         command = [self.given.shopbook, words[0], "--db", str(self.floor.database), *words[1:]]
         printed = subprocess.run(command, capture_output=True, text=True, check=True).stdout
         return [line.split(" ") for line in printed.splitlines()]
@@ -362,7 +363,7 @@ def run(given: argparse.Namespace, folder: pathlib.Path) -> int:
 
 
 def judge(floor: Floor, evidence: Evidence, seconds: float) -> int:
-    """Prints what happened, and every fault."""
+    """Prints the figures and all faults."""
     met = Counter(fault for card in evidence.cards for fault in card.met)
     moved = Counter(
         event.what for card in evidence.cards for event in card.events if event.kind == "tray"

@@ -21,9 +21,9 @@ class Session(NamedTuple):
 
 @dataclasses.dataclass
 class Evidence:
-    """What is known when all records are good. `rows` has the groupings of each record by
-    application, read from the batch file without `persod`. `strays` are the serials that the server
-    has to refuse, and `unread` those that no reader can read."""
+    """The evidence when all records are good. `rows` has the groupings of each record by
+    application, read from the batch file without `persod`. `strays` are the serials that the
+    server must refuse, and `unread` those of cards that no reader can read."""
 
     cards: list[Card]
     rows: dict[str, dict[str, list[str]]]
@@ -68,7 +68,7 @@ def sessions_of(lines: list[list[str]]) -> dict[int, Session]:
 
 
 def blanks_of(lines: list[list[str]]) -> tuple[dict[int, tuple[str, str]], dict[str, int]]:
-    """State and record of each charged blank, and the sums, from `shopbook blanks`."""
+    """Returns the state and the record of each charged blank, and the sums, from `shopbook blanks`."""
     blanks = {int(line[1]): (line[3], line[4]) for line in lines if line[0] == "blank"}
     [sums] = [map(int, line[1:]) for line in lines if line[0] == "sums"]
     return blanks, dict(zip(SUMS, sums))
@@ -84,7 +84,7 @@ def _coded(identifier: str, data: str) -> str:
 
 
 def customer(card: Card, rows: dict[str, dict[str, list[str]]]) -> Optional[str]:
-    """The record whose groupings a card has, each once, in the applications of the record."""
+    """Returns the record whose groupings a card has, each once, in the applications of the record."""
     groups = [(aid, [_coded(*grouping) for grouping in found]) for aid, found in card.received]
     if len(dict(groups)) != len(groups):
         return None
@@ -104,49 +104,49 @@ def _trays(card: Card) -> list[str]:
 
 
 def tray_of(card: Card) -> str:
-    """Where a card is at the end. One that was never moved is in its magazine."""
+    """Returns the place of a card at the end. A card that was never moved is in its magazine."""
     return (_trays(card) or [MAGAZINE])[-1]
 
 
 def _of_commands(card: Card) -> Iterator[str]:
-    """Faults of a card that received commands, whichever record they belong to."""
+    """Yields faults of a card that received commands, whichever record they belong to."""
     kinds = [event.kind for event in card.events]
     first = kinds.index("command")
     last = len(kinds) - kinds[::-1].index("command")
     if {*kinds[first:last]} != {"command"}:
-        yield "its power changed, or it was moved, between two commands"
+        yield "its power changed or it was moved between two commands"
     if any(len(event.answer or "") != 4 for event in _commands(card)[:-1]):
-        yield "it got another command after it had given no status word"
+        yield "it got another command after an answer without a status word"
 
 
 def _of_session(card: Card, session: Session, evidence: Evidence) -> Iterator[str]:
     commands, plan = _commands(card), evidence.plans[session.record]
     received = [event.what for event in commands]
     if received != plan[: len(received)]:
-        yield "it received what isn't the beginning of its plan"
+        yield "it received commands that aren't the first ones of its plan"
     if tray_of(card) != (GOOD if session.state == "good" else REJECTS):
         yield f"its session is {session.state}"
     least = len(plan) if session.state == "good" else max(len(commands) - 1, 0)
     if not least <= session.words <= len(commands):
-        yield f"the server has {session.words} status words, and it received {len(commands)}"
+        yield f"the server has {session.words} status words, but it received {len(commands)} commands"
     elif session.words and session.last != commands[session.words - 1].answer:
         yield "the server has another last status word"
     if session.state == "good" and len(received) != len(plan):
-        yield "it is good, and didn't receive the whole plan"
+        yield "it is good, but didn't receive the whole plan"
     if session.state == "good" and customer(card, evidence.rows) != session.record:
-        yield "it is good, and hasn't the data of its record"
+        yield "it is good, but doesn't have the data of its record"
 
 
 def _without_session(card: Card, evidence: Evidence) -> Iterator[str]:
     tray, is_stray = tray_of(card), card.serial in evidence.strays | evidence.unread
     if _commands(card):
-        yield "it received a command, and has no session"
+        yield "it received a command, but has no session"
     if tray == GOOD or tray == REJECTS and not is_stray:
         yield "it has no session"
 
 
 def of_card(card: Card, evidence: Evidence) -> Iterator[str]:
-    """Everything that is wrong with a card."""
+    """Yields all faults of a card."""
     if any(tray != MAGAZINE for tray in _trays(card)[:-1]):
         yield "it was taken out of its last tray"
     if _commands(card):
@@ -161,7 +161,7 @@ def of_card(card: Card, evidence: Evidence) -> Iterator[str]:
 
 
 def of_records(evidence: Evidence) -> Iterator[str]:
-    """Each customer has exactly one good card, and the report names it."""
+    """Checks that each record has exactly one good card, and that the report names it."""
     good = [card for card in evidence.cards if tray_of(card) == GOOD]
     customers = Counter(customer(card, evidence.rows) for card in good)
     for record in evidence.rows:
@@ -173,7 +173,7 @@ def of_records(evidence: Evidence) -> Iterator[str]:
 
 
 def of_blanks(evidence: Evidence) -> Iterator[str]:
-    """Each charged blank is a card in a tray, or was discarded, and all sums agree."""
+    """Checks that each charged blank is a card in a tray or was discarded, and that all sums agree."""
     trays = {GOOD: "good", REJECTS: "spoiled"}
     wanted = {
         card.serial: (trays[tray_of(card)], evidence.sessions[card.serial].record)
@@ -189,14 +189,14 @@ def of_blanks(evidence: Evidence) -> Iterator[str]:
     sums |= {"total": evidence.total, "free": evidence.total - sum(counts.values())}
     for account in evidence.accounts:
         if any(account[name] != count for name, count in sums.items()):
-            yield f"the sums are {account}, and not {sums}"
+            yield f"the sums are {account}, expected {sums}"
     records = {"records": len(evidence.rows), "good": counts["good"], "spoiled": counts["spoiled"]}
     if any(evidence.batch[name] != count for name, count in records.items()):
-        yield f"the account of the batch is {evidence.batch}, and not {records}"
+        yield f"the account of the batch is {evidence.batch}, expected {records}"
 
 
 def judged(evidence: Evidence) -> list[str]:
-    """Everything that is wrong."""
+    """Returns all faults."""
     found = [
         f"card {card.serial}: {fault}"
         for card in evidence.cards
@@ -213,12 +213,13 @@ def _good_cards(evidence: Evidence) -> list[Card]:
 
 
 def _place(card: Card, count: int) -> int:
-    """The place of a command among the events."""
+    """Returns the position of a command among the events."""
     return [place for place, event in enumerate(card.events) if event.kind == "command"][count]
 
 
 def _swap(evidence: Evidence) -> None:
-    """Gives the data and the commands of one good card to another, which then is a second one."""
+    """Gives the data and the commands of one good card to another, so its record has two good
+    cards."""
     one, other = _good_cards(evidence)[:2]
     other.received, other.events = one.received, one.events
 
@@ -276,7 +277,7 @@ IN_GOOD_CARD: dict[str, Callable[[Card], Any]] = {
 }
 PLANTED: dict[str, Callable[[Evidence], Any]] = {
     "a spoiled card among the good ones": _tray_of_spoiled,
-    "a customer twice": _swap,
+    "two good cards of a record": _swap,
     "another status word": _other_word,
     "a charged blank that is missing": lambda evidence: evidence.blanks.popitem(),
     "a wrong sum": lambda evidence: evidence.accounts[0].update(free=-1),
@@ -288,7 +289,7 @@ PLANTED: dict[str, Callable[[Evidence], Any]] = {
 
 
 def overlooked(evidence: Evidence) -> list[str]:
-    """The planted faults that the judge doesn't find in evidence without faults."""
+    """Returns the planted faults that the judge doesn't find in evidence without other faults."""
     missed = []
     for name, plant in PLANTED.items():
         changed = copy.deepcopy(evidence)

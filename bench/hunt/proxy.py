@@ -1,21 +1,25 @@
 #!/usr/bin/env python3
-"""Attacks `persod serve` through nginx with each of the files service/persod.conf and service/persod-tls.conf, and tries the port's rule service/persod.nft.
+"""Attacks `persod serve` through nginx with the configuration files of service/.
 
-    bench/run proxy               attacks both files as they are
+    bench/run proxy               attacks both configuration files as they are
     bench/run proxy --without     also removes each line of both files in turn, and expects that an attack or an honest request then goes wrong
 
-Loopback addresses 127.0.7.x replace 10.0.7.x. The office imports batches, machines make cards, and the office ends the session of a machine that is gone.
-Then come:
+The files are persod.conf and persod-tls.conf, and the rule is persod.nft. Loopback addresses 127.0.7.x replace 10.0.7.x. The office imports
+batches, machines make cards, and the office ends the session of a machine that is gone. The attacks are:
 
-- a machine that acts as the office: under the office's name, under its own with every spelling of `do`, in pieces, in chunks, and in large bodies;
-- a machine that makes a card, reports its last command as failed, and asks for the remake;
-- requests under another machine's name, and floods of requests and of connections;
-- requests of pages in a browser, under other names of the server, and without a certificate or with a wrong one.
+- a machine that acts as the office: under the office's name, under its own with every spelling of `do`, in pieces, in chunks, and in large
+  bodies
+- a machine that makes a card, reports its last command as failed, and requests the remake
+- requests under another machine's name, and floods of requests and of connections
+- requests of pages in a browser, under other names of the server, and without a certificate or with a wrong one
 
-None of them changes anything. Idle connections hold nobody, a driver's repeat succeeds after a restart, and batch files up to 16 MiB pass.
+None of them may change anything. Idle connections must not block other clients, a driver's repeat must succeed after a restart, and batch files
+up to 16 MiB must pass.
 
-The rule for nftables is loaded in a network namespace, if this machine allows that: only the users of nginx and of persod can then connect to the port, and
-only the user of persod can answer there."""
+The nftables rule is loaded in a network namespace, if this machine allows it. Then only the users of nginx and of persod may connect to the
+port, and only the user of persod may send responses from it.
+
+Requires nginx and openssl. Exit status: 1 if a check fails."""
 import json
 import os
 import pathlib
@@ -46,7 +50,7 @@ BY_PAGES = [
     {"Origin": f"http://{NAME}"}, {"Origin": "null"}, {"Sec-Fetch-Site": "cross-site"}, {"Sec-Fetch-Site": "same-site"},
     {"Origin": "http://evil.example", "Sec-Fetch-Site": "none"}, {"Origin": f"http://{NAME}", "Sec-Fetch-Site": "same-origin"},
 ]
-# Lines that may be removed without effect on the attacks: they state a default, or a limit that this machine's OpenSSL has anyway.
+# Lines without effect on the attacks: they state a default, or a limit that this machine's OpenSSL has anyway.
 WITHOUT_EFFECT = re.compile(r'default\s+"";|ssl_protocols ')
 
 
@@ -63,7 +67,7 @@ class Shop:
             raise
 
     def state(self) -> list[bytes]:
-        """The accounts, asked without nginx."""
+        """Returns the accounts, read without nginx."""
         return [exchange(self.server.port, get(target)) for target in ("/batch/B1", "/batch/B1/report", "/blanks/P1", "/batch/B9", "/blanks/P9")]
 
     def restart(self) -> None:
@@ -115,7 +119,7 @@ def honest(shop: Shop) -> None:
 
 
 def frees_a_machine(shop: Shop) -> None:
-    """The office resets m2, which left a session. Nothing else of the office passes under the name of a machine."""
+    """The office resets m2, which left a running session. Nothing else from the office passes under the name of a machine."""
     proxy = shop.proxy
     running = json.loads(proxy.post("m2", json.dumps({"do": "open", "batch": "B1", "blank": FIRST + 2})).body)["session"]
     others = [
@@ -182,7 +186,7 @@ def other_names(shop: Shop) -> None:
 
 
 def other_messages(shop: Shop) -> None:
-    """Targets, methods and lengths that nginx and persod could read in two ways."""
+    """Tries targets, methods and lengths that nginx and persod could interpret differently."""
     proxy = shop.proxy
     for target in ("/", "/index.html", "/c/m1", "/c/m1/0", "/c/m1/1/2", "/batch/B1/x", "/blanks/"):
         expect(f"the office asks for {target}", proxy.ask("office", "GET", target).status, 404)
@@ -241,7 +245,7 @@ def pages(shop: Shop) -> None:
 
 
 def closed(answer: Answer) -> bool:
-    """Whether nothing came of a request. nginx itself responds with 400 if the Host is missing."""
+    """Returns whether a request had no effect. nginx itself responds with 400 if the Host is missing."""
     return answer.status in (0, 400)
 
 
@@ -263,7 +267,7 @@ def certificates(shop: Shop) -> None:
 
 
 def idle(shop: Shop) -> None:
-    """Twenty connections on which nothing is sent."""
+    """Opens twenty connections that send nothing, and checks that another request isn't delayed."""
     others = [shop.proxy.connect("m2") for _ in range(20)]
     begun = time.monotonic()
     expect("next to idle connections", shop.proxy.ask("office", "GET", "/blanks/P1").status, 200)
@@ -281,7 +285,7 @@ def restarts(shop: Shop) -> None:
 
 
 def repeated(shop: Shop, number: int, batch: str, body: bytes) -> Answer:
-    """The response that a driver waits for. A build that isn't proved takes minutes for 16 MiB."""
+    """Repeats an import like a driver, and returns the response. A build without proofs takes minutes for 16 MiB."""
     for _ in range(10):
         answer = shop.proxy.ask("office", "POST", f"/c/office/{number}/batch/{batch}/P1", body)
         if answer.status < 500:
@@ -297,10 +301,10 @@ def largest(shop: Shop) -> None:
     expect("a byte more", (answer.status, b"nginx" in answer.body), (413, True))
 
 
-# ---- the port's rule
+# ---- the rule for the port
 
 def as_user(name: str, does: Callable[[], object]) -> int:
-    """Forks a process of this user, which exits with status 0 if the call succeeds. Returns its id."""
+    """Forks a process of this user, which exits with status 0 if the call succeeds. Returns its process id."""
     user = pwd.getpwnam(name).pw_uid
     child = os.fork()
     if child == 0:
@@ -341,10 +345,10 @@ def reached(rule: str) -> None:
 
 
 def port_rule() -> str:
-    """Tries the rule in a network namespace of its own. The user daemon takes the place of the user persod, who may not exist here."""
+    """Tries the rule in a network namespace of its own. The user daemon replaces the user persod, which may not exist here."""
     lacking = [name for name in ("nft", "ip", "unshare") if not shutil.which(name)] + ["root"] * (os.geteuid() != 0)
     if lacking or subprocess.run(["unshare", "--net", "true"], capture_output=True).returncode:
-        return f"the port's rule wasn't tried, for want of {' and '.join(lacking) or 'namespaces'}"
+        return f"the rule for the port wasn't tried; missing: {' and '.join(lacking) or 'namespaces'}"
     with tempfile.TemporaryDirectory() as name:
         text = text_of("persod.nft").replace('"persod"', '"daemon"')
         for removed, wanted in ((None, ["www-data reaches daemon", "daemon reaches daemon"]), ("dport", None), ("sport", None)):
@@ -352,16 +356,16 @@ def port_rule() -> str:
             rule.write_text("".join(line for line in text.splitlines(keepends=True) if not removed or removed not in line))
             ran = subprocess.run(["unshare", "--net", sys.executable, "-B", __file__, IN_NAMESPACE, rule], capture_output=True, text=True, timeout=300)
             expect(f"{IN_NAMESPACE} {removed}", (ran.returncode, ran.stderr), (0, ""))
-            expect("more come through without a line of the rule", len(ran.stdout.splitlines()) > 2, bool(removed))
+            expect("more connections pass without a line of the rule", len(ran.stdout.splitlines()) > 2, bool(removed))
             expect("who reaches whom through the port", ran.stdout.splitlines(), wanted or ran.stdout.splitlines())
-    return "the port's rule lets only nginx and persod connect, and only persod answer"
+    return "the rule for the port lets only nginx and persod connect, and only persod respond"
 
 
 # ---- the runs
 
 
 def attacks(shop: Shop) -> None:
-    """All that must hold of a file, except what takes long."""
+    """Runs all tests of a file, except the long ones."""
     stock(shop.proxy)
     for part in (honest, frees_a_machine, acts_as_office, asks_own_remake, other_names, other_messages, pages, floods):
         part(shop)
@@ -378,14 +382,14 @@ def tried(program: str, file: str, text: str, parts: tuple[Callable[[Shop], None
 
 
 def two_megabytes(shop: Shop) -> None:
-    """A batch file that is larger than the buffers and the limit that nginx has by default."""
+    """Imports a batch file that is larger than nginx's default buffers and limit."""
     expect("a batch of 2 MB", repeated(shop, 2000, "B2", batch_file(1) + b"\n" * 2_000_000).status, 200)
     log = (shop.folder / "error.log").read_text()
     expect("no batch file in a temporary file", "buffered to a temporary file" in log, False)
 
 
 def without_each_line(program: str, file: str, certificates: Certificates) -> int:
-    """Removes each rule of a file in turn, and expects a fault. Returns their number."""
+    """Removes each rule of a file in turn, and expects a fault. Returns the number of rules."""
     lines, count = text_of(file).splitlines(keepends=True), 0
     for place, line in enumerate(lines):
         if ";" not in line or line.startswith("#") or "listen " in line:

@@ -1,13 +1,13 @@
-/* An allocator to be loaded before a program of tests: it refuses each allocation in turn, in a child of its own that is made there and
- * goes on to the end. A realloc that is refused leaves its block as it is.
+/* An allocator to preload into a test program. It makes each allocation in turn fail, in a child process that is forked at this point and
+ * runs to its end. A realloc that fails leaves its block unchanged. The program itself continues without failed allocations. It may have
+ * only one thread, and no file or socket that a child would share. Environment variables:
  *
- * STEP: of that many allocations, one is refused; 1: each. JOBS: the children at once. REPORT: the file that gets a line for each child
- * that fails, is killed or takes over 60 seconds, and then how many allocations were asked for, refused, and failed so. The program itself
- * is refused nothing. It may have one thread, and no file or socket that a child would share.
- *
- * LASTING: if set, all later allocations of the child also fail.
- *
- * AT: with no STEP, the number of the one allocation that the program itself is refused; it is killed behind 60 seconds.
+ * STEP: one in STEP allocations fails; 1 means each.
+ * JOBS: the maximum number of children at a time.
+ * REPORT: a file. It gets a line for each child that fails, is killed or takes over 60 seconds, and at the end the numbers of allocations,
+ *     of children, and of children that failed.
+ * LASTING: if set, all later allocations of a child also fail.
+ * AT: if STEP isn't set, the number of the only allocation of the program itself that fails. The program is killed after 60 seconds.
  */
 #include <errno.h>
 #include <fcntl.h>
@@ -35,7 +35,7 @@ static unsigned long number_of(const char *name)
     return text ? strtoul(text, NULL, 10) : 0;
 }
 
-/* One child has ended: what failed is printed. */
+/* Waits for a child, and reports it if it failed. */
 static void await(void)
 {
     int status;
@@ -75,7 +75,7 @@ __attribute__((destructor)) static void end(void)
     dprintf(report, "%lu %lu %lu\n", asked, children, failed);
 }
 
-/* Whether this allocation is refused, which it is in the child alone, or in the program by its number. */
+/* Returns whether this allocation fails. It fails only in a child, or in the program if it has the number AT. */
 static int is_refused(void)
 {
     if (is_out_of_memory || (report < 0 && ++asked == alone)) {

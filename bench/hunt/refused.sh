@@ -1,16 +1,20 @@
 #!/usr/bin/env bash
-# Makes each allocation of most tests of `trials` and `table_trials`, and of the tests in `socket_trials::memory`, fail in turn. It fails in a
-# child of the test, which then runs to its end. The script lists the children that fail, are killed or take over 60 seconds, and fails if there
-# is one.
+# Runs most test functions of the crates `*trials`, while each of their allocations in turn fails.
 #
-# A word selects the tests whose names contain it: `memory::` selects those of single calls and of connections, and `refused::` those over both
-# stores. If a test makes more than 100,000 allocations, about 2,000 of them are selected, evenly spread. In `socket_trials::memory` first only
-# this allocation fails, and then also all later ones. A test with files in a folder of its own runs again for each allocation, and may end with
-# the error that it is out of memory.
+#     bench/run refused [TEXT]
 #
-# These tests fail if an allocation fails, and are left out: those of a stop at each call, of damaged tables, of earlier versions that are served,
-# of a file next to its WAL, of a damaged WAL, of power cuts, of a file behind a socket, of a file system that reports failed allocations itself,
-# and the other tests of `socket_trials`.
+# TEXT selects the tests whose names contain it: `memory::` selects those of single calls and of connections, `refused::` those over both
+# stores. Requires cc. The script runs most tests of `trials` and `table_trials`, and the tests in `socket_trials::memory`.
+#
+# An allocation fails in a child of the test, which then runs to its end. If a test makes more than 100,000 allocations, about 2,000 of them
+# are selected, evenly spread. In `socket_trials::memory` first only this allocation fails, and then also all later ones. A test with files in
+# its own folder runs again for each allocation, and may end with the error that it is out of memory.
+#
+# The script lists the children that fail, are killed or take over 60 seconds. Exit status: 1 if there is one, or if no allocation failed.
+#
+# These tests are left out, because they fail if an allocation fails: those of a stop at each call, of damaged tables, of earlier versions that
+# are served, of a file next to its WAL, of a damaged WAL, of power failures, of a file behind a socket, of a file system that reports failed
+# allocations itself, and the other tests of `socket_trials`.
 set -euo pipefail
 cd "$(dirname "$0")/../.."
 folder=$(mktemp -d)
@@ -70,5 +74,5 @@ for program in "$1" "$2" "$3"; do
     done
 done
 cat "$folder/failed"
-echo "$total allocations refused, each in a child of its own, of $tests tests: $((total - failed)) passed, $failed failed"
+echo "$total failed allocations in $tests tests, each in its own child: $((total - failed)) passed, $failed failed"
 [ "$total" -gt 0 ] && [ "$failed" -eq 0 ]

@@ -1,14 +1,18 @@
 #!/usr/bin/env python3
-"""Hunts for failures without cause: out of memory, a fault of the store or a failed write that is reported where there was none.
+"""Runs random batches, exchanges and messages, and checks that none fails without cause.
 
-No clause can forbid that for one shape of input alone. So this makes batches, exchanges and messages of every shape and size up to each
-limit, by a seed, as files in the formats of docs/WORKED.md. They run through the program `worked`, which fails on any giving up and on any
-two ways that differ; some hundreds more run through `persod plan` and `persod drill`. A case is one batch, one ask or one message.
+    bench/run shapes [--seed TEXT] [--cases N] [--jobs N]
 
-What must come out is computed by small models (shapes_batches.py, shapes_machine.py), which follow docs/PROFILE.md and docs/PROTOCOL.md and
-know nothing of the program; where bytes were changed at random it is `any`. At the end stand the cases of each kind and the largest of
-each size. The status is 1 where anything differed; the cases that did then stay in a folder that is named, each in a file of its own:
-shrink such a case by hand into a file of crates/worked/data.
+No contract excludes that a call reports out of memory, a fault of the store or a failed write although nothing failed. The script therefore
+makes batches, exchanges and messages of every shape and size up to each limit, by a seed, as files in the formats of docs/WORKED.md. The program
+`worked` runs them. It fails if a case ends with such an error, or if two ways of running it differ. Some hundreds more run with `persod plan`
+and `persod drill`. A case is one batch, one request or one message.
+
+Small models (shapes_batches.py, shapes_machine.py) compute the expected results. They follow docs/PROFILE.md and docs/PROTOCOL.md, and share no
+code with the programs. If bytes were changed at random, any result is accepted.
+
+At the end the script prints the number of cases of each kind and the largest of each size. Exit status: 1 if a result was wrong. The wrong cases
+are then left in a folder that is named, each in its own file. Shrink such a case by hand to a file of crates/worked/data.
 """
 import argparse
 import concurrent.futures
@@ -30,26 +34,26 @@ from shapes_messages import message_cases
 
 SEED = "shapes"
 CASES = 20_000
-# With so many cases come the long ones.
+# The long cases are added if there are at least so many.
 LONG = 10_000
-# How many records of the longest report are made, and how many withdrawn: enough for more than 65,536 bytes, and no more, since over lists each
-# further card costs more than the one before.
+# The numbers of records that the longest report makes and withdraws: enough for more than 65,536 bytes, but not more, because each further card
+# costs more in a store of lists.
 REPORT = (840, 184)
-# The most that a program may run.
+# The time limit of a program.
 SECONDS = 7200
 
 
 def outcome(words: list[str], where: pathlib.Path, given: bytes = b"") -> tuple[int, str, str]:
-    """The status, the output and the errors of a program; one that doesn't end has none."""
+    """Returns the status, the output and the errors of a program. A program over the time limit has no output."""
     try:
         done = subprocess.run(words, cwd=where, input=given, capture_output=True, timeout=SECONDS)
     except subprocess.TimeoutExpired:
-        return 124, "", f"no end in {SECONDS} s"
+        return 124, "", f"no exit after {SECONDS} s"
     return done.returncode, done.stdout.decode("latin-1"), done.stderr.decode("latin-1")
 
 
 class Hunt:
-    """Files of cases, and what came of them."""
+    """Files of cases, and their results."""
 
     def __init__(self, program: str, folder: pathlib.Path, jobs: int) -> None:
         self.program, self.folder, self.jobs = program, folder, jobs
@@ -57,7 +61,7 @@ class Hunt:
         self.failed: list[str] = []
 
     def put(self, kind: str, cases: list[Case], most: int) -> None:
-        """The cases stand in files of so many."""
+        """Writes the cases to files of at most `most` cases."""
         for cut in range(0, len(cases), most):
             name = f"{kind}-{len(self.wanted):04}.{cases[cut].kind}"
             taken = cases[cut:cut + most]
@@ -65,12 +69,12 @@ class Hunt:
             self.wanted[name] = len(taken)
 
     def run(self, *names: str) -> str:
-        """What `worked` says of these files."""
+        """Returns the output of `worked` for these files."""
         status, out, err = outcome([self.program, *names], self.folder)
         return out + ("" if status == 0 else f"status {status}\n{err[-3000:]}")
 
     def run_all(self) -> None:
-        """The long ones go first, and of the others the largest."""
+        """Runs the long files first, and then the others by size, the largest first."""
         names = sorted(self.wanted, key=lambda name: (not name.startswith("long"), -(self.folder / name).stat().st_size))
         with concurrent.futures.ThreadPoolExecutor(self.jobs) as pool:
             for name, said in zip(names, pool.map(self.run, names)):
@@ -82,7 +86,7 @@ class Hunt:
             print("\n".join(line[:400] for line in said.splitlines()[:40]), flush=True)
 
     def alone(self) -> None:
-        """The cases of the files that failed, each in a file of its own, so that those that fail are known."""
+        """Writes the cases of the failed files to a file each, and keeps those that fail."""
         singles = {}
         for name in self.failed:
             stem, _, kind = name.rpartition(".")
@@ -102,7 +106,7 @@ class Hunt:
 
 
 class Run(NamedTuple):
-    """A run of the program, and what it must write and end with; no text: whatever comes, with status 0 or 1."""
+    """A run of the program, and its expected output and status. If `out` is None, any output with status 0 or 1 is accepted."""
 
     name: str
     words: list[str]
@@ -139,7 +143,7 @@ def is_right(run: Run, status: int, out: str, err: str) -> bool:
 
 
 def run_persod(program: str, runs: list[Run], jobs: int, folder: pathlib.Path) -> list[Run]:
-    """The runs that were not right."""
+    """Returns the runs with wrong results."""
 
     def one(run: Run) -> bool:
         return is_right(run, *outcome([program, *run.words], folder, run.given))
@@ -158,7 +162,7 @@ def print_figures(seconds: float) -> None:
 
 
 def hunted(hunt: Hunt, seed: str, cases: int) -> None:
-    """Writes the files: six in twenty cases are batches, nine are asks and five are messages. The long ones come on top."""
+    """Writes the files. Of twenty cases six are batches, nine are requests and five are messages. The long cases are additional."""
     if cases >= LONG:
         hunt.put("long", [long_report(Draw(seed + " long report"), "office", *REPORT).drill("a long report")], 1)
         hunt.put("long", [longest_session(Draw(seed + " longest session"), "office").drill("the longest session")], 1)
@@ -170,7 +174,7 @@ def hunted(hunt: Hunt, seed: str, cases: int) -> None:
 
 
 def persod(program: str, draw: Draw, cases: int, jobs: int, folder: pathlib.Path) -> list[Run]:
-    """Runs of the program, one for each forty cases; those that were not right."""
+    """Runs the program once for each forty cases. Returns the runs with wrong results."""
     runs = [plan_run(draw, k) for k in range(cases // 60)] + [drill_run(draw, k) for k in range(cases // 120)]
     wrong = run_persod(program, runs, jobs, folder)
     for run in wrong:
@@ -185,7 +189,7 @@ def main() -> None:
     words.add_argument("worked")
     words.add_argument("persod")
     words.add_argument("--seed", default=SEED)
-    words.add_argument("--cases", type=int, default=CASES, help=f"the long ones come with {LONG} and more")
+    words.add_argument("--cases", type=int, default=CASES, help=f"with {LONG} or more, long cases are added")
     words.add_argument("--jobs", type=int, default=os.cpu_count() or 1)
     given = words.parse_args()
     folder = pathlib.Path(tempfile.mkdtemp(prefix="shapes-"))
@@ -200,7 +204,7 @@ def main() -> None:
     if hunt.failed or wrong:
         sys.exit(f"{len(hunt.failed)} files and {len(wrong)} runs of persod failed; they are in {folder}")
     shutil.rmtree(folder)
-    print("\nnothing gave up, and no two ways differed")
+    print("\nno case failed without cause, and no two ways differed")
 
 
 if __name__ == "__main__":

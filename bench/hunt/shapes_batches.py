@@ -1,4 +1,4 @@
-"""Batches of every shape, sound and with one fault, and the commands that they are, as docs/PROFILE.md has them."""
+"""Draws batches of every shape, sound and with one fault, and computes their commands as docs/PROFILE.md describes."""
 import functools
 from collections import Counter
 from typing import Callable, NamedTuple
@@ -8,14 +8,14 @@ from row_groups import by_record, segments_of
 from shapes_draw import (COUNTS, MOST_BLOCKS, MOST_DATA, MOST_FILE, MOST_RECORDS, MOST_ROWS, Case, Draw, changed, largest, spelt)
 
 HEADER = "record,aid,rank,enc,tol,dgi"
-# Sizes beside which lengths or pieces change their form.
+# Sizes near which lengths or pieces change their form.
 EDGES = (0, 1, 12, 13, 14, 125, 126, 127, 128, 250, 251, 252, 253, 254, 255, 256, 510, 4090, 4091, 16_000, 16_383, 16_384)
 NAMES = {
     21: "marks-differ", 22: "identifier-twice", 23: "too-many-blocks", 30: "not-six-fields", 31: "header", 32: "record-name", 33: "aid",
     34: "rank", 35: "mark", 36: "grouping", 37: "not-a-record", 38: "too-many-rows", 39: "too-many-records", 40: "no-rows",
 }
 
-# Records of a file: objects in objects.
+# EMV records: objects within objects.
 
 
 def tag(draw: Draw, constructed: bool) -> bytes:
@@ -32,7 +32,7 @@ def one_object(draw: Draw, its_tag: bytes, value: bytes) -> bytes:
 
 
 def objects(draw: Draw, depth: int, room: int) -> bytes:
-    """Objects of this depth and fillers, in at most so many bytes."""
+    """Returns objects at this depth and filler bytes, with at most `room` bytes."""
     made = b""
     while room - len(made) >= 12 and draw.chance(0.7):
         size = draw.size(0, room - len(made) - 12)
@@ -57,7 +57,7 @@ def no_record(draw: Draw) -> bytes:
                         b"\x70\x80", b"\x70\x83\0\0\0", b"\x70\x01\x50", b"\x70\x02\x5F\x81"))
 
 
-# Batches, and the commands that they are.
+# Batches and their commands.
 
 
 class Product(NamedTuple):
@@ -77,7 +77,8 @@ class Row(NamedTuple):
 
 
 class Shape(NamedTuple):
-    """How often it is taken, and the ends of how many records, applications of a record, rows of an application and bytes of data it has."""
+    """The weight of a shape, and its minimum and maximum numbers of records, applications of a record and rows of an application, and the maximum
+    size of the data."""
 
     weight: float
     records: tuple[int, int]
@@ -114,7 +115,7 @@ def sent_size(size: int) -> int:
 
 
 def sizes_in(room: int) -> list[int]:
-    """The data of groupings that are sent in so many bytes, but for one or two."""
+    """Returns the data sizes of groupings that together have `room` bytes, or one or two bytes fewer."""
     sizes = []
     while room >= 3:
         sizes.append(min(room - 3, 254) if room <= 257 else min(room - 5, MOST_DATA))
@@ -123,7 +124,7 @@ def sizes_in(room: int) -> list[int]:
 
 
 def sent_of(segments: dict[int, list["Row"]]) -> Counter:
-    """How many bytes of each rank are sent."""
+    """Returns the number of bytes to send for each rank."""
     return Counter({rank: sum(sent_size(len(row.data)) for row in rows) for rank, rows in segments.items()})
 
 
@@ -138,7 +139,8 @@ def row_data(draw: Draw, checked: bool, most: int) -> bytes:
 
 
 def application(draw: Draw, product: Product, record: str, aid: bytes, count: int, most: int, is_full: bool = False) -> list[Row]:
-    """So many rows of one application, or fewer where its blocks are used up; a full one has more, which use them up."""
+    """Returns up to `count` rows of one application, within its maximum number of blocks. A full application has further rows that use up all
+    blocks."""
     ranks = draw.sample(range(1, 1000), draw.size(1, min(count, 999)))
     marks = {rank: (draw.randrange(3), draw.randrange(2)) for rank in ranks}
     identifiers = draw.sample(range(0x0101, 0x0B00) if count < 2000 and draw.chance(0.5) else range(0xF000), count)
@@ -162,7 +164,7 @@ def application(draw: Draw, product: Product, record: str, aid: bytes, count: in
 
 
 def some_rows(draw: Draw, product: Product, shape: Shape) -> list[Row]:
-    """The rows of a sound batch, at most as many as a file may have, and in about 1 MB: longer ones are few, and come from `whole_file`."""
+    """Returns the rows of a sound batch, with at most as many rows as a file may have and about 1 MB. A few longer batches come from `whole_file`."""
     aids = list({draw.randbytes(draw.size(5, 16)): None for _ in range(shape.applications[1])})
     rows: list[Row] = []
     for record in draw.names(draw.size(*shape.records)):
@@ -178,7 +180,7 @@ def some_rows(draw: Draw, product: Product, shape: Shape) -> list[Row]:
 
 
 def most_applications(draw: Draw) -> list[Row]:
-    """A record that has as many applications as a file has rows."""
+    """Returns a record that has as many applications as a file may have rows."""
     aids = [f"{k:05}".encode() for k in range(MOST_ROWS)]
     return [Row("R1", aid, draw.randint(1, 999), draw.randrange(3), draw.randrange(2), 0x8000, draw.filled(draw.size(0, 9))) for aid in aids]
 
@@ -208,7 +210,7 @@ def commands_of(rows: list[Row], product: Product) -> list[Command]:
 
 
 def line_of(draw: Draw, row: Row, odd: bool) -> str:
-    """A row of the file; an odd one may be spelt in any way that is read as the same."""
+    """Returns a row of the file. With `odd` it may have any spelling with the same meaning."""
     grouping = coded(f"{row.identifier:04X}", row.data)
     fields = [row.record, row.aid.hex().upper(), str(row.rank), str(row.enc), str(row.tol), grouping]
     if odd:
@@ -225,7 +227,7 @@ def lines_of(draw: Draw, rows: list[Row], odd: bool = False) -> list[str]:
 
 
 def file_of(draw: Draw, lines: list[str]) -> bytes:
-    """Lines with ends of every kind, empty ones between them, and sometimes a byte order mark."""
+    """Returns a file with line ends of every kind, empty lines, and sometimes a byte order mark."""
     ends = draw.choice((("\n",), ("\r\n",), ("\r",), ("\n", "\r\n", "\r", "\n\n\n", "\r\r")))
     text = "".join(line + draw.choice(ends) for line in lines)
     text = text.rstrip("\r\n") if draw.chance(0.2) and not lines[-1].endswith(",") else text
@@ -237,13 +239,13 @@ def text_of(lines: list[str]) -> bytes:
 
 
 def whole_file(draw: Draw, product: Product, size: int) -> tuple[list[str], list[Row]]:
-    """A sound batch whose lines are just so many bytes."""
+    """Returns a sound batch whose lines have exactly `size` bytes."""
     room, rows, lines = size - len(HEADER) - 1, [], [HEADER]
     most = min(MOST_DATA, MOST_BLOCKS * product.max - 5)
     while room > 0:
         row = Row(f"R{len(rows) // 4}", draw.randbytes(8), draw.randint(1, 9), 1, 0, draw.randrange(65536), b"")
         front = len(line_of(draw, row, False)) + 1
-        # The last two share what is left, so that the last one is neither too short nor too long.
+        # The last two rows share the remaining bytes, so that the last row is neither too short nor too long.
         share = room if room <= 2 * most else room // 2 if room <= 4 * most else 2 * draw.randint(most // 2, most) + front
         wide = next(it for it in range(3) if fits(share - front - it))
         digits = share - front - wide
@@ -255,11 +257,11 @@ def whole_file(draw: Draw, product: Product, size: int) -> tuple[list[str], list
 
 
 def fits(digits: int) -> bool:
-    """So many digits more than a grouping without data has are those of some data."""
+    """Returns whether a grouping with some data can have `digits` more digits than one without data."""
     return digits % 2 == 0 and (digits <= 508 or digits >= 514)
 
 
-# Faults of a batch, one in a sound file.
+# Faults of a batch: one fault in a sound file.
 
 BAD_FIELDS: dict[int, tuple[tuple[int, ...], Callable[[Draw], str]]] = {
     32: ((0,), lambda draw: draw.choice(("", "R.1", "R 1", " R1", "R1 ", "R\xE9", "A" * draw.size(33, 5000)))),
@@ -291,7 +293,7 @@ def too_many(draw: Draw, kind: int) -> tuple[list[str], int]:
 
 
 def with_record_fault(draw: Draw, kind: int, product: Product, rows: list[Row]) -> tuple[list[str], int]:
-    """One record gets rows that are wrong beside its others."""
+    """Adds rows to a record that contradict its other rows."""
     one = draw.choice(rows)
     if kind == 21:
         other = (one.enc + draw.randint(1, 2)) % 3
@@ -310,7 +312,7 @@ def with_record_fault(draw: Draw, kind: int, product: Product, rows: list[Row]) 
 
 
 def with_fault(draw: Draw, kind: int, product: Product, rows: list[Row]) -> tuple[list[str], int]:
-    """The lines of these rows with a fault, and the row that the refusal names."""
+    """Returns the lines of these rows with a fault, and the row that the refusal names."""
     if kind in SELDOM:
         return too_many(draw, kind)
     if kind in (21, 22, 23):
@@ -341,7 +343,7 @@ def with_fault(draw: Draw, kind: int, product: Product, rows: list[Row]) -> tupl
 
 
 class Plan(NamedTuple):
-    """A batch file and what `persod plan` has to say of it: its fault and row, or else its rows if it is known to be sound."""
+    """A batch file and the expected result of `persod plan`: the fault and its row, or the rows if the file is known to be sound."""
 
     product: Product
     raw: bytes
@@ -407,7 +409,7 @@ def plan_cases(draw: Draw, count: int) -> list[Case]:
 
 
 def long_plans(draw: Draw) -> list[Plan]:
-    """A record of the most applications, files of the most bytes, and files of more."""
+    """Returns plans for a record with the maximum number of applications, for files of the maximum size, and for larger files."""
     product, rows = Product(16, 31, False), most_applications(draw)
     plans = [Plan(product, text_of(lines_of(draw, rows)), None, rows)]
     for size in (MOST_FILE, MOST_FILE - 1, MOST_FILE, draw.randint(1_000_000, MOST_FILE)):

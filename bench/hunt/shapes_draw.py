@@ -1,4 +1,4 @@
-"""Draws by a word, the figures of a hunt, and the spelling of cases in files, as docs/WORKED.md has it."""
+"""Draws values by a seed, counts the cases of a hunt, and writes cases in the format of docs/WORKED.md."""
 import random
 import re
 from collections import Counter
@@ -12,12 +12,12 @@ MOST_DATA = 16_384
 MOST_BLOCKS = 256
 MOST_SERIAL = 10**18 - 1
 LETTERS = "ABCDEFGHIJKLMNOPQRSTUVWXYZabcdefghijklmnopqrstuvwxyz0123456789_-"
-# Words with which a line of a file means something else.
+# Words that have a special meaning at the start of a line.
 WORDS = ("get", "import", "repeat", "spelling", "set-up", "cut", "any", "office")
 RUN = re.compile(r"((?:\\x..|\\r\\n|\\[rnt\\]|[^\\{}*])|[0-9A-Fa-f]{2})\1{23,}")
 SPELT = [chr(byte) if 32 <= byte < 127 and byte not in b"\\*" else f"\\x{byte:02X}" for byte in range(256)]
 SPELT[13], SPELT[10], SPELT[9] = "\\r", "\\n", "\\t"
-# How many cases of each kind were made, and the largest of each size.
+# The number of cases of each kind, and the largest of each size.
 COUNTS: Counter = Counter()
 MOST: dict[str, int] = {}
 
@@ -28,13 +28,13 @@ def largest(**sizes: int) -> None:
 
 
 class Draw(random.Random):
-    """Draws by a word: the same word, the same draws."""
+    """A random generator. The same seed results in the same values."""
 
     def chance(self, share: float) -> bool:
         return self.random() < share
 
     def size(self, low: int, high: int) -> int:
-        """Often an end of the range; else small ones as often as large ones, by their order of magnitude."""
+        """Returns often an end of the range. Otherwise all orders of magnitude have the same probability."""
         end = self.random()
         if end < 0.2:
             return high if end < 0.1 else low
@@ -54,13 +54,13 @@ class Draw(random.Random):
         return [f"{k:04}" + "".join(self.choices(LETTERS, k=28)) for k in range(count)]
 
     def filled(self, size: int) -> bytes:
-        """Some bytes of all kinds, and then one kind."""
+        """Returns some random bytes, followed by copies of one byte."""
         front = self.randbytes(min(size, self.size(0, 64)))
         return front + self.randbytes(1) * (size - len(front))
 
 
 class Case(NamedTuple):
-    """The end of its file's name, its text, and how many cases it counts as."""
+    """A case: the extension of its file, its text, and the number of cases that it counts as."""
 
     kind: str
     text: str
@@ -68,7 +68,7 @@ class Case(NamedTuple):
 
 
 def packed(text: str) -> str:
-    """The text with what is repeated in it written short."""
+    """Returns the text with repetitions in their short form."""
     return RUN.sub(lambda run: f"{{{run[1]}*{len(run[0]) // len(run[1])}}}", text) if len(text) > 100 else text
 
 
@@ -77,7 +77,7 @@ def unpacked(text: str) -> str:
 
 
 def spelt(raw: bytes) -> list[str]:
-    """The lines that stand for these bytes."""
+    """Returns the lines that denote these bytes."""
     lines = []
     for piece in re.findall(rb"[^\r\n]*[\r\n]+|[^\r\n]+", raw):
         text = packed("".join([SPELT[byte] for byte in piece]))
@@ -88,7 +88,7 @@ def spelt(raw: bytes) -> list[str]:
 
 
 def changed(draw: Draw, raw: bytes, most: int) -> bytes:
-    """Some bytes are changed, left out or put in."""
+    """Returns the bytes with some of them changed, removed or inserted."""
     made = bytearray(raw)
     for _ in range(draw.size(1, 6)):
         at = draw.randrange(len(made) + 1)

@@ -1,4 +1,4 @@
-"""Exchanges of every shape: requests, imports and accounts, and what they are answered by the small model."""
+"""Draws exchanges of every shape (requests, imports and accounts), with the responses that the model predicts."""
 import json
 from typing import NamedTuple
 
@@ -8,7 +8,7 @@ from shapes_batches import (FAULTS, SELDOM, SMALL, Plan, Product, Row, Shape, ap
 from shapes_draw import COUNTS, MOST_FILE, MOST_RECORDS, MOST_SERIAL, Case, Draw, largest, packed
 from shapes_machine import Books, refused
 
-# Requests as JSON, sound and malformed.
+# Requests as JSON, valid and malformed.
 
 JUNK = ("null", "[]", '{"a":{}}', "-1.5e3", '"\\u0041\\n"', "[" * 126 + "]" * 126)
 WRONG = ("null", "[]", "{}", "-1", "-0", "1.0", "1e1", '""', '"a.b"', '"' + "x" * 33 + '"', '"' + "x" * 9000 + '"', "1" + "0" * 18, "2" + "0" * 400, "01")
@@ -23,7 +23,7 @@ def dumped(members: dict) -> str:
 
 
 def spelt_json(draw: Draw, members: dict) -> str:
-    """A text that is read as these members."""
+    """Returns a text that is read as these members."""
     if draw.chance(0.6):
         return dumped(members)
     parts = [(name, spelt_word(draw, value) if isinstance(value, str) else dumped(value)) for name, value in members.items()]
@@ -40,7 +40,7 @@ def spelt_word(draw: Draw, text: str) -> str:
 
 
 def malformed(draw: Draw, members: dict) -> str:
-    """A text that is no request, and nearly is one."""
+    """Returns a text that is almost a request."""
     text, name = dumped(members), draw.choice(list(members))
     deep = draw.size(127, 3000)
     other = draw.choice(PAST.get(name, ('"R 1"',)) + WRONG)
@@ -69,7 +69,7 @@ class Sent(NamedTuple):
 
 
 class Talk:
-    """A case of exchanges under way."""
+    """A case of exchanges in progress."""
 
     def __init__(self, draw: Draw, clients: list[str]) -> None:
         self.draw, self.clients, self.books = draw, clients, Books()
@@ -77,7 +77,7 @@ class Talk:
         self.labels: list[str] = []
         self.sent: list[Sent] = []
         self.stops = draw.choice((0.0, 0.02, 0.2))
-        # The last number but for that of `release_all`.
+        # The last number, except for that of `release_all`.
         self.last = MOST_SERIAL - draw.randrange(2)
 
     def put(self, ask: str, reply: dict, label: str) -> None:
@@ -95,7 +95,8 @@ class Talk:
         return reply
 
     def number(self, client: str, upto: int = MOST_SERIAL) -> int:
-        """One that the client has not used, mostly above its mark. That of a release up to a number is often this one, or the next."""
+        """Returns a number that the client hasn't used, mostly above its release mark. For a release up to a number, it is often that number or the
+        next."""
         mark = self.books.marks[client] if self.draw.chance(0.97) else 0
         number = mark + self.draw.size(1, self.last - mark)
         if upto < self.last and self.draw.chance(0.3):
@@ -129,7 +130,7 @@ class Talk:
         return next((blank for blank in blanks if blank not in self.books.charged), blanks[0])
 
     def members(self, client: str, do: str) -> dict:
-        """What is asked of this kind: mostly what can be accepted now."""
+        """Returns the members of a request that can mostly be accepted now."""
         draw, books = self.draw, self.books
         if do == "product":
             known = {**books.products, draw.name(): some_product(draw)}
@@ -217,7 +218,7 @@ class Talk:
             self.ask(client, do, **self.members(client, do))
 
     def release_all(self, client: str) -> None:
-        """The largest number releases all others of the client; it comes again, an earlier request comes late, and one more is asked."""
+        """Releases all numbers of the client with the largest number. Then repeats the release, sends an earlier request late, and sends a new one."""
         members = {"upto": MOST_SERIAL - 1}
         last = Sent(client, MOST_SERIAL, "release", members, spelt_json(self.draw, {"do": "release", **members}))
         earlier = [sent for sent in self.sent if sent.client == client]
@@ -231,7 +232,7 @@ class Talk:
         return Case("exchange", f"== {title}\n{text}", len(self.lines))
 
     def script(self) -> tuple[str, str]:
-        """The same for a drill, whose client is the office alone, and what it prints."""
+        """Returns the same requests as a script for a drill, whose only client is the office, and the expected output."""
         asks = "".join(ask.replace("import office ", "import ", 1) + "\n" for ask, _ in self.lines)
         return asks, "".join(wanted + "\n" * (not wanted.endswith("\n")) for _, wanted in self.lines)
 
@@ -250,7 +251,7 @@ def packed_lines(raw: bytes) -> str:
 
 
 def import_plan(draw: Draw, product: Product, shape: Shape = SMALL) -> Plan:
-    """A batch whose lines can stand in a file of exchanges."""
+    """Returns a batch whose lines can be part of a file of exchanges."""
     kind = draw.choice([it for it in FAULTS if it != 37 or product.check]) if draw.chance(0.25) else None
     rows = some_rows(draw, product, shape)
     lines, row = with_fault(draw, kind, product, rows) if kind else (lines_of(draw, rows, True), 0)
@@ -260,7 +261,7 @@ def import_plan(draw: Draw, product: Product, shape: Shape = SMALL) -> Plan:
 
 
 def talk_of(draw: Draw, clients: list[str], steps: int) -> Talk:
-    """Some products with lots and a batch each, and then so many steps of all kinds."""
+    """Creates some products with a lot and a batch each, and then takes `steps` steps of all kinds."""
     talk = Talk(draw, clients)
     for _ in range(draw.randint(1, 3)):
         for do in ("product", "lot", "import"):
@@ -280,11 +281,11 @@ def exchange_cases(draw: Draw, count: int) -> list[Case]:
     return cases
 
 
-# Exchanges that are long in one thing.
+# Exchanges that are long in one respect.
 
 
 def drive(talk: Talk, client: str, batch: str, blank: int, most: int = 10_000) -> None:
-    """A card is made, but for what lies behind so many words."""
+    """Makes a card, up to `most` status words."""
     reply = talk.ask(client, "open", batch=batch, blank=blank)
     while reply.get("result") == "command" and most > 0:
         reply = talk.ask(client, "answer", session=reply["session"], index=reply["index"], sw="9000")
@@ -292,7 +293,7 @@ def drive(talk: Talk, client: str, batch: str, blank: int, most: int = 10_000) -
 
 
 def stocked(draw: Draw, product: Product, plan: Plan, first: int, batch: str = "B1", code: str = "P1") -> Talk:
-    """A batch with blanks for its records."""
+    """Creates a batch with blanks for its records."""
     measured(plan)
     talk = Talk(draw, ["m1"])
     talk.ask("office", "product", product=code, **product._asdict())
@@ -302,7 +303,8 @@ def stocked(draw: Draw, product: Product, plan: Plan, first: int, batch: str = "
 
 
 def long_report(draw: Draw, client: str, made: int, withdrawn: int) -> Talk:
-    """The most records with the longest names; so many are made on blanks with the longest serials, and as many more withdrawn."""
+    """Returns an exchange with the maximum number of records and the longest names. `made` of them are made on blanks with the longest serials, and
+    `withdrawn` are withdrawn."""
     names = draw.names_of_32(MOST_RECORDS)
     product, batch, code = Product(255, 0, False), *draw.names_of_32(2)
     rows = [Row(name, b"A0000", 1, 0, 0, 0x8000, b"") for name in names]
@@ -326,7 +328,7 @@ def long_file(draw: Draw, size: int) -> Talk:
 
 
 def long_session(draw: Draw, product: Product, rows: list[Row], client: str = "m1") -> Talk:
-    """The first two records of a batch, made to their ends."""
+    """Makes the first two records of a batch completely."""
     plan = Plan(product, text_of(lines_of(draw, rows)), None, rows)
     talk = stocked(draw, product, plan, 10)
     for k in range(min(2, len(by_record(rows)))):
@@ -336,7 +338,8 @@ def long_session(draw: Draw, product: Product, rows: list[Row], client: str = "m
 
 
 def long_sessions(draw: Draw) -> list[Talk]:
-    """Applications of the most blocks, in one segment and in several, many applications, and many ranks."""
+    """Returns exchanges with applications of the maximum number of blocks, in one segment and in several, with many applications, and with many
+    ranks."""
     talks = []
     for most in (16, 17, 255, draw.randint(18, 254)):
         product = some_product(draw)._replace(max=most)
@@ -348,12 +351,12 @@ def long_sessions(draw: Draw) -> list[Talk]:
 
 
 def longest_session(draw: Draw, client: str) -> Talk:
-    """A card of the most applications."""
+    """Makes a card with the maximum number of applications."""
     return long_session(draw, Product(255, 0, False), most_applications(draw), client)
 
 
 def long_faults(draw: Draw) -> Talk:
-    """Imports of too many rows and of too many records."""
+    """Imports files with too many rows and with too many records."""
     talk = talk_of(draw, ["office"], 5)
     talk.ask("office", "product", product="P1", max=255, low=0, check=True)
     for kind in SELDOM * 2:
@@ -363,7 +366,7 @@ def long_faults(draw: Draw) -> Talk:
 
 
 def long_bodies(draw: Draw) -> Talk:
-    """Requests of each kind with as many spaces as a body may have."""
+    """Sends requests of each kind with as many spaces as a body may have."""
     talk = talk_of(draw, ["office", "m1"], 20)
     for do in TURNS:
         if do != "import":
@@ -377,7 +380,7 @@ def long_bodies(draw: Draw) -> Talk:
 
 
 def long_releases(draw: Draw) -> Talk:
-    """Many numbers of three clients, of which each releases more and more."""
+    """Sends many requests of three clients, which release more and more numbers."""
     clients = draw.names(3)
     talk = talk_of(draw, clients, 20)
     for _ in range(600):

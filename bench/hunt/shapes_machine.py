@@ -1,4 +1,4 @@
-"""A small model of the machine: what is answered to each request and account, as docs/PROTOCOL.md has it."""
+"""A small model of the server: the replies to each request and account, as docs/PROTOCOL.md describes."""
 import functools
 from collections import Counter
 
@@ -60,7 +60,7 @@ class Batch:
 
 
 class Books:
-    """All that was accepted. Each request is a method, which answers the reply's members."""
+    """Everything that was accepted. Each kind of request is a method that returns the members of the reply."""
 
     def __init__(self) -> None:
         self.products: dict[str, Product] = {}

@@ -1,4 +1,4 @@
-"""Messages of every shape: heads, targets and bodies, sound and with a fault, and the bytes that answer them."""
+"""Draws messages of every shape (heads, targets and bodies, valid and with a fault), and the expected responses."""
 import re
 from typing import Callable, NamedTuple
 
@@ -16,7 +16,7 @@ NAMED = {"400": "400 malformed", "404": "404 no-route", "413": "413 too-large", 
 
 
 class Asking(NamedTuple):
-    """What a message asks, and what it is answered where its head is right."""
+    """The content of a message, and the response if its head is valid."""
 
     method: str
     target: str
@@ -103,7 +103,7 @@ def headers(draw: Draw, body: bytes, fault: str) -> list[str]:
 
 
 def message(draw: Draw, it: Asking, fault: str) -> tuple[bytes, str]:
-    """A message, and what it is answered: the tests of docs/PROTOCOL.md in their order."""
+    """Returns a message and its response. The checks are in the order of docs/PROTOCOL.md."""
     version = draw.choice(("HTTP/2.0", "HTTP/1.2", "http/1.1", "HTTP")) if fault == "version" else f"HTTP/1.{draw.randrange(2)}"
     lines = [f"{it.method} {it.target} {version}", *headers(draw, it.body, fault)]
     if fault == "edge":

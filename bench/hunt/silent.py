@@ -1,20 +1,23 @@
 #!/usr/bin/env python3
-"""Measures how long an honest client of `persod serve` waits next to silent, slow, half-open and reset connections.
+"""Measures how long a client of `persod serve` waits next to silent, slow and reset connections.
 
     bench/run silent [--requests N] [--seconds S] [--strict]
 
-The honest client sends N requests, each on its own connection, for a batch that doesn't exist: the reply is short, and nothing is written. It does so first
-alone, then next to each of these crowds, and then alone again:
+The client sends N requests, each on its own connection, for a batch that doesn't exist: the reply is short, and nothing is written. It does so
+first alone, then next to each of these crowds, and then alone again:
 
     idle      200 connections that send nothing, and 20 that send a byte every half second; each connects again when it is closed
     silent    a flood of connections that send nothing, as many as a process can make
-    half      a flood of connections that send only the beginning of a message
+    half      a flood of connections that send only the first part of a message
     reset     a flood of connections that are reset at once
 
-During each flood, 100 messages are also sent in two pieces, 20 ms apart. Every request must get its reply, and so must every message in two pieces, except
-next to `half`: there the server drops the message that has waited longest, and a message that pauses for 20 ms may be the one if over 128 others arrive
-meanwhile. For each crowd the script prints the median, the slowest hundredth and the longest wait, each also as a multiple of the first run alone. With
---strict it fails if the median is over 1.5 times that, or the longest wait is over 50 ms. A busy machine may miss both."""
+During each flood, 100 messages are also sent in two pieces, 20 ms apart. Every request must get its reply, and so must every message in two
+pieces, except next to `half`. There the server drops the message that has waited longest. A message that pauses for 20 ms may be this one if
+over 128 others arrive meanwhile.
+
+For each crowd the script prints the median, the 99th percentile and the longest wait, each also as a multiple of the first run alone. With
+--strict it fails if the median is over 1.5 times that of the first run, or the longest wait is over 50 ms. A busy machine may miss both. Exit
+status: 1 if the script fails."""
 import argparse
 import multiprocessing
 import pathlib
@@ -172,7 +175,7 @@ def next_to(name: str, port: int, requests: int, seconds: float) -> tuple[Waits,
 
 def line(name: str, waits: Waits, alone: Waits) -> str:
     texts = [f"{one * 1e3:.3f} ms ({one / other:.2f})" for one, other in zip(waits.figures(), alone.figures())]
-    return f"{name}: median {texts[0]}, slowest hundredth {texts[1]}, longest {texts[2]}"
+    return f"{name}: median {texts[0]}, 99th percentile {texts[1]}, longest {texts[2]}"
 
 
 def run(program: str, folder: pathlib.Path, requests: int, seconds: float, is_strict: bool) -> list[str]:

@@ -93,7 +93,7 @@ def main() -> None:
             expect("the lines of repeated requests", tries, "some for each start")
         starts.server.kill()
     took = time.monotonic() - begun
-    print(f"{given.cards} good cards during {given.starts} starts of {given.seconds} s; {len(tries)} repeats, at most {max(tries)} of a request; {took:.0f} s")
+    print(f"{given.cards} good cards, {given.starts} starts of {given.seconds} s; {len(tries)} repeats, at most {max(tries)} each; {took:.0f} s")
 
 
 if __name__ == "__main__":

@@ -1,12 +1,17 @@
 #!/usr/bin/env python3
-"""Cuts the power at each write of `persod serve`, in simulation, and checks that no file that is left is called damaged. Requires strace.
+"""Simulates a power failure at each write of `persod serve`, and checks that no WAL is called damaged.
 
     bench/run wal_crashes [--folder FOLDER] [--requests N] [--draws N] [--seed N]
 
-The script traces the writes, changes of length and syncs of both files while a server serves requests, restarts after a kill, and imports 16 MiB, so that
-checkpoints and spills are among them. After each call it draws some states that a power cut may leave: each write since the last sync is lost, whole, or torn
-at sectors or bytes, in any order, and the length is any in between. By the definition, no counted commit follows a break in any of them. For some of them,
-`persod report` must agree. The script assumes the same of the disk as SQLite: each byte of a torn write is old or new, and what was synced stays."""
+Requires strace. The script traces the writes, length changes and syncs of the database file and the WAL. Meanwhile a server handles requests,
+restarts after a kill, and imports 16 MiB, so that there are checkpoints and spills.
+
+After each call the script draws some states that a power failure may leave. Each write since the last sync is lost, complete, or torn at sectors
+or bytes, in any order, and the length is any in between. In none of these states may a counted commit follow a break in the WAL. For some of
+them, `persod report` must agree.
+
+The script makes the same assumptions about the disk as SQLite: each byte of a torn write is old or new, and synced data isn't lost. Exit status:
+1 if a check fails."""
 import argparse
 import os
 import pathlib
@@ -51,7 +56,7 @@ def calls_in(trace: pathlib.Path) -> Iterator[Call]:
 
 
 def call_of(call: str, file: str, data: list[str], numbers: list[int]) -> Call:
-    """The last number is what the call returned."""
+    """Returns a call. Its return value is the last number."""
     if call == "pwrite64":
         _, at, count = numbers
         return Call(file, at, plain(data[0])[:count], None)
@@ -59,7 +64,7 @@ def call_of(call: str, file: str, data: list[str], numbers: list[int]) -> Call:
 
 
 class TracedServer(Server):
-    """A server under strace, which adds to a file of its calls."""
+    """A server under strace, which appends its calls to a file."""
 
     trace: pathlib.Path
 
@@ -74,7 +79,7 @@ class TracedServer(Server):
         self.process.communicate()
 
 
-# ---- what a power cut leaves
+# ---- states after a power failure
 
 
 class File:
@@ -91,7 +96,7 @@ class File:
         done(self.seen, call)
 
     def left(self, draw: random.Random, grain: int) -> bytes:
-        """Draws what a power cut leaves. Pieces of `grain` bytes are old or new; if `grain` is 0, whole calls are."""
+        """Draws the contents after a power failure. Pieces of `grain` bytes are old or new. If `grain` is 0, whole calls are."""
         data = bytearray(self.synced)
         for call in self.since:
             if call.length is not None:
@@ -116,7 +121,7 @@ def done(data: bytearray, call: Call) -> None:
 
 
 def torn(data: bytearray, call: Call, draw: random.Random, grain: int) -> None:
-    """The file may end anywhere within what it grew by."""
+    """Applies parts of a write. The file may end anywhere within the bytes by which it grew."""
     end = call.at + len(call.data)
     if end > len(data):
         end = draw.randint(min(len(data), end), end)
@@ -134,7 +139,7 @@ def torn(data: bytearray, call: Call, draw: random.Random, grain: int) -> None:
 
 
 def traced_shop(program: str, database: pathlib.Path, requests: int, raw: bytes) -> None:
-    """Requests, a kill, requests, an import that spills, and requests again."""
+    """Sends requests, with a kill and an import that spills in between."""
     server = TracedServer(program, database, free_port())
     stock(server.port, 1000, 20)
     for number in range(1, requests + 1):
@@ -164,7 +169,7 @@ def try_all(program: str, folder: pathlib.Path, calls: list[Call], database: pat
             if draw.random() < TRIED / (draws * len(calls)):
                 expect_not_called_damaged(program, folder / "left.db", f"call {place}", pair)
                 tried += 1
-    print(f"{len(calls)} calls, {states} states that a power cut may leave, {tried} of them tried; none is called damaged", flush=True)
+    print(f"{len(calls)} calls, {states} states that a power failure may leave, {tried} of them tried; none is called damaged", flush=True)
 
 
 def main() -> None:

@@ -1,14 +1,17 @@
 #!/usr/bin/env python3
-"""Flips a bit in every frame of a killed server's WAL, and checks that the next start refuses the file.
+"""Flips bits in the WAL of a killed server, and checks that the next start refuses the file.
 
     bench/run wal_flips [--folder FOLDER] [--requests N] [--kills N] [--seed N]
 
-Each bit of the header is flipped in turn, and in each frame one bit of its page and one of its head. If a counted commit still follows the flip, `serve`, `report`
-and `shopbook check` refuse 81 with `cause=damaged-wal`, say how many such commits there are, and change neither file, even if the database file is empty. With
-no database file, `serve` does so. Every flip is refused, except those in the last commit and some in the head of the frame before it. The exceptions, and a WAL
-that ends anywhere within its last commit, are never called damaged. A WAL that SQLite's library wrote is never refused: its flips are reported. Then a server
-is killed again and again within imports of 16 MiB, which spill into the WAL over the leftovers of earlier ones: none of these files is called damaged. SIGKILL
-loses nothing that the system was given to write; `bench/run wal_crashes` loses writes."""
+The script flips each bit of the header in turn, and in each frame one bit of its page and one of its head. If a counted commit still follows the
+flip, `serve`, `report` and `shopbook check` must refuse the file with 81 and `cause=damaged-wal`, report the number of such commits, and change
+neither file, even if the database file is empty. Without a database file, `serve` must do so. Every flip must be refused, except those in the
+last commit and some in the head of the frame before it. These exceptions, and a WAL that ends anywhere within its last commit, must not be
+called damaged.
+
+A WAL that the SQLite library wrote must never be refused, but its flips must be reported. Then a server is killed repeatedly during imports of
+16 MiB, which spill into the WAL over the remains of earlier imports. None of these files may be called damaged. SIGKILL doesn't lose data that
+was passed to the operating system; `bench/run wal_crashes` loses writes. Exit status: 1 if a check fails."""
 import argparse
 import pathlib
 import random
@@ -41,7 +44,7 @@ def killed_shop(program: str, database: pathlib.Path, requests: int) -> Pair:
 
 
 class Flips:
-    """A killed server's two files, and how many flips were refused so far, and how many weren't seen."""
+    """The two files of a killed server, and the numbers of flips that were refused and that weren't detected."""
 
     def __init__(self, programs: Programs, folder: pathlib.Path, pair: Pair) -> None:
         self.programs, self.database, self.pair = programs, folder / "flipped.db", pair
@@ -69,7 +72,7 @@ class Flips:
         elif place == self.last - 1 and bit < (self.at(place) + FRAME_HEAD) * 8:
             self.unseen += 1
         else:
-            sys.exit(f"{what}: no start sees it")
+            sys.exit(f"{what}: no start detects it")
 
     def flip_all(self, draw: random.Random) -> None:
         for bit in range(HEAD * 8):
@@ -95,7 +98,7 @@ class Flips:
 
 
 def other_pair(program: str, database: pathlib.Path) -> Pair:
-    """A shop that was closed, and commits of SQLite's library that are still in the WAL, each of one frame."""
+    """Returns the files of a closed shop. Commits of the SQLite library, each of one frame, are still in the WAL."""
     server = Server(program, database, free_port(), 3)
     stock(server.port, 1000, 20)
     server.served()
@@ -110,7 +113,7 @@ def other_pair(program: str, database: pathlib.Path) -> Pair:
 
 
 def flip_other(programs: Programs, folder: pathlib.Path) -> int:
-    """A flip is reported if two commits follow it, and the file is taken in any case."""
+    """Checks that a flip is reported if two commits follow it, and that the file is always accepted."""
     pair, database = other_pair(programs.persod, folder / "other.db"), folder / "other-flipped.db"
     wal = Wal(pair.wal, page_size_in(pair.db or b""))
     expect("the commits of SQLite's library", [bool(frame.size) for frame in wal.frames], [True] * COMMITS)
@@ -125,17 +128,17 @@ def flip_other(programs: Programs, folder: pathlib.Path) -> int:
     return COMMITS
 
 
-# ---- kills within imports
+# ---- kills during imports
 
 
 def large_batch(draw: random.Random) -> bytes:
-    """Almost 16 MiB: 1,000 records of one grouping each."""
+    """Returns a batch file of almost 16 MiB: 1,000 records of one grouping each."""
     rows = (f"R{place},F00000000101,1,0,0,{coded('8010', draw.randbytes(8200))}" for place in range(1, 1001))
     return "".join(f"{line}\n" for line in [HEADER, *rows]).encode()
 
 
 def kill_import(program: str, database: pathlib.Path, number: int, raw: bytes, delay: float) -> float | None:
-    """Kills a server `delay` seconds after an import was sent to it. Returns how long the import took, if it ended before."""
+    """Kills a server `delay` seconds after an import was sent to it. Returns the time of the import, if it ended before."""
     server = Server(program, database, free_port())
     begun, replies, took = time.monotonic(), [], []
 
@@ -172,7 +175,7 @@ def kill_imports(program: str, folder: pathlib.Path, kills: int, draw: random.Ra
             fresh.write(database)
     if not large:
         sys.exit("no import spilled into the WAL before it was killed")
-    print(f"{kills} kills within imports of {len(raw)} bytes, {large} with over {LARGE} bytes in the WAL; none called damaged", flush=True)
+    print(f"{kills} kills during imports of {len(raw)} bytes, {large} with over {LARGE} bytes in the WAL; none called damaged", flush=True)
 
 
 def main() -> None:
@@ -191,9 +194,9 @@ def main() -> None:
         flips.flip_all(random.Random(f"{given.seed}/flips"))
         flips.without_database()
         ends = flips.torn_ends()
-        print(f"{flips.used} frames: {flips.refused} flips refused, {flips.last_unseen} in the last commit and {flips.unseen} in the head before it unseen", flush=True)
+        print(f"{flips.used} frames: {flips.refused} flips refused, {flips.last_unseen} in the last commit and {flips.unseen} in the head before it not detected", flush=True)
         print(f"{ends} torn ends, none called damaged", flush=True)
-        print(f"{flip_other(programs, folder)} flips in a WAL of SQLite's library, none refused", flush=True)
+        print(f"{flip_other(programs, folder)} flips in a WAL of the SQLite library, none refused", flush=True)
         kill_imports(programs.persod, folder, given.kills, random.Random(f"{given.seed}/kills"))
 
 

@@ -1,5 +1,5 @@
 #!/usr/bin/env python3
-"""Measures how long it takes to open, audit, upgrade and close a database file, and how long SQLite's own checks take.
+"""Measures the time to open, audit, upgrade and close a database file, and that of SQLite's checks.
 
     bench/run adopt [FOLDER]
 

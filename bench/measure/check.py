@@ -1,5 +1,5 @@
 #!/usr/bin/env python3
-"""Measures the speed of the EMV record check (`tlv_check::is_record`) and the memory of `batch_import::check_batch`.
+"""Measures the speed of `tlv_check::is_record` and the memory of `batch_import::check_batch`.
 
     bench/run check
 
@@ -10,11 +10,9 @@ time is the best of several runs, and a difference below 1 ms counts as 1 ms.
 
 The memory is that of `measure batch` minus that of `measure raw` on the same batch, for each row:
 
-- resident: the median of the peak resident size over several runs, including the stack and the
-  pages of the program, in pages of 4 KiB
+- resident: the median of the peak resident size over several runs, including the stack and the pages of the program, in pages of 4 KiB
 - less one row: the same minus the value of a batch with one row
-- allocated: the peak of the bytes allocated by `malloc`, as the C library's libmemusage counts
-  them, or `-` if this library is missing
+- allocated: the peak of the bytes allocated by `malloc`, as the C library's libmemusage counts them, or `-` if this library is missing
 """
 import os
 import pathlib

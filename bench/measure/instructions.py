@@ -1,10 +1,11 @@
 #!/usr/bin/env python3
-"""Counts the instructions of `persod plan` and of a plain Rust program on the same batch of 200 cards, and measures their times.
+"""Counts the instructions of `persod plan` and of a plain Rust program, and measures their times.
 
     bench/run instructions [FOLDER]
 
-Requires valgrind, cargo, and Debian's librust-csv-dev. The count is that of valgrind's callgrind, which is the same in each run. The time is the
-best of several runs. The profiles are left in FOLDER. Exit status: 1 if the outputs of the programs differ."""
+Both programs get the same batch of 200 cards. Requires valgrind, cargo, and Debian's librust-csv-dev. The count is that of valgrind's callgrind,
+which is the same in each run. The time is the best of several runs. The profiles are left in FOLDER. Exit status: 1 if the outputs of the
+programs differ."""
 import pathlib
 import re
 import subprocess

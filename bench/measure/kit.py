@@ -1,11 +1,11 @@
 #!/usr/bin/env python3
-"""Measures the time of the SQL statements of each arrival, with the toolchain's crate `sqlite` and
-with the SQLite library.
+"""Measures the time of the SQL statements of each arrival, with two SQLite implementations.
 
     bench/run kit [FOLDER] [--rounds N]
 
-Requires Linux, and takes two minutes. No message is read and nothing is decided, so no server
-that uses the crate can be faster. The SQLite library uses WAL and synchronous FULL.
+Requires Linux, and takes two minutes. The implementations are the toolchain's crate `sqlite` and
+the SQLite library. No message is read and nothing is decided, so no server that uses the crate
+can be faster. The SQLite library uses WAL and synchronous FULL.
 
 The programs are programs/measure_kit.txt and c/same.c. Each works on a copy of the same file on
 the disk of FOLDER, and they take turns. In a round a batch of make_batch.py is imported, 20 of

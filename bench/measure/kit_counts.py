@@ -1,10 +1,10 @@
 #!/usr/bin/env python3
-"""Counts the instructions of each SQL statement of arrivals.py, with the toolchain's crate `sqlite`
-and with the SQLite library.
+"""Counts the instructions of each SQL statement of arrivals.py, with two SQLite implementations.
 
     bench/run kit_counts [--cards N]
 
-Requires valgrind, and takes three minutes. callgrind's counts are nearly the same in each run.
+The implementations are the toolchain's crate `sqlite` and the SQLite library. Requires valgrind,
+and takes three minutes. callgrind's counts are nearly the same in each run.
 
 The programs are programs/measure_kit.txt and c/same.c. Each works on a new file with one batch
 of N cards, 20 of which are open. A statement runs in transactions of its own, so the count of a
