@@ -1,12 +1,12 @@
 #!/usr/bin/env python3
-"""A minimal driver of a machine: it makes cards of a batch over `persod serve`.
+"""Makes cards of a batch over `persod serve`: a minimal driver of a machine.
 
     python3 bench/demo/driver.py PORT MACHINE BATCH FIRST_BLANK [--boot N] [--lose N]
 
-It takes the blanks FIRST_BLANK, FIRST_BLANK + 1 and so on, until the batch needs no more cards.
-The boot number must be higher at every start, because the request numbers begin with it. The
-default is the seconds since 2026-01-01. A used boot number is refused at the first request.
---lose N discards every Nth reply, as a bad network would.
+The driver uses the blanks FIRST_BLANK, FIRST_BLANK + 1 and so on, until the batch needs no more
+cards. The boot number must be higher at every start, because the request numbers begin with it.
+The default is the seconds since 2026-01-01. A used boot number is refused at the first request.
+--lose N discards every Nth reply, as an unreliable network does.
 
 A real driver replaces `card`, which sends a command to the reader. Here the card returns 9000 to
 every command. The table in docs/SHOP_FLOOR.md, "Responses and cards", says where each card goes.
@@ -24,7 +24,7 @@ TRIES = 100
 LONGEST_PAUSE = 1
 NUMBERS = 10_000_000
 START_OF_2026 = 1_767_225_600
-# If so many cards in a row aren't blanks of the product, the wrong ones are in the magazine.
+# If so many cards in a row aren't blanks of the product, the magazine has the wrong cards.
 MOST_STRAYS = 3
 
 

@@ -1,34 +1,37 @@
 #!/usr/bin/env python3
-"""A driver of a machine with a PC/SC reader: makes cards of a batch over `persod serve`.
+"""Makes cards of a batch with a PC/SC reader, over `persod serve`.
 
     python3 bench/demo/driver_pcsc.py PORT MACHINE BATCH READER HANDLER [--state FILE] [--boot N]
 
 READER is the name of the reader, such as `Virtual PCD 00 00`. HANDLER is the Unix socket of the
 card handler, which moves the cards. The driver sends it a line, and gets a line:
 
-    next            feeds a card into the reader, unless one is in: `in`, or `empty`
+    next            feeds a card into the reader, unless it has one: `in`, or `empty`
     out TRAY        moves this card to a tray: `out`, or `none` if there is no card
 
-TRAY is `good`, `rejects`, or `magazine` for an unused card. A real machine has calls of its own for
-this: replace `handle`. It may also know the serials: replace `serial_of`. Here a serial is in the
-historical bytes of the ATR, in decimal. It is read before the `open`.
+TRAY is `good`, `rejects`, or `magazine` for an unused card. A real machine has its own calls for
+this: replace `handle`. It may also know the serials: replace `serial_of`. Here the historical
+bytes of the ATR contain the serial, in decimal. It is read before the `open`.
 
-How the driver treats a card:
+The driver treats a card as follows:
+
 - The connection to a card is exclusive, so no other program can send it anything. The card is
   powered once for all commands.
-- Each command is sent once, as it is, without Le. Nothing else is sent: no GET RESPONSE after
+- Each command is sent once, unchanged, without Le. Nothing else is sent: no GET RESPONSE after
   61XX, and no second try after 6CXX.
-- A card that gives no status word, because it was pulled out or is mute, is rejected after an
+- A card that returns no status word, because it was pulled out or is mute, is rejected after an
   `abort`. Nothing is sent to it again.
-- After a response it goes where the table in docs/SHOP_FLOOR.md, "Responses and cards", says.
+- After a response, the card goes where the table in docs/SHOP_FLOOR.md, "Responses and cards",
+  says.
 
-FILE is MACHINE.state if there is no --state. It has the last request and the serial of the card in
-the reader. They are on the disk before the request is sent. After a kill, a power failure, or 100
-tries without a reply, the card stays in the reader, and the next start first repeats this request.
-If the reply is `good`, the card received everything, and is put out as good. Any other card with a
-session is rejected, because it has lost its power. Each boot number is above the one in FILE.
+FILE is MACHINE.state by default. It has the last request and the serial of the card in the
+reader. They are on the disk before the request is sent. After a kill, a power failure, or 100
+tries without a reply, the card stays in the reader, and the next start first repeats this
+request. If the reply is `good`, the card has received everything and is moved to `good`. Any
+other card with a session is rejected, because it has lost its power. Each boot number is above
+the one in FILE.
 
-Needs libpcsclite1 and a running pcscd. --lose N discards every Nth reply, as driver.py does."""
+Requires libpcsclite1 and a running pcscd. --lose N discards every Nth reply, as in driver.py."""
 import argparse
 import fcntl
 import json
@@ -41,7 +44,7 @@ from driver import NUMBERS, Machine, Stopped, new_boot
 from winscard import Failed, Reader, historical
 
 GOOD, REJECTS, MAGAZINE = "good", "rejects", "magazine"
-SECONDS = 5  # at most, until the reader notices a card, or that it is gone
+SECONDS = 5  # maximum time until the reader notices that a card was inserted or removed
 
 
 class State:
@@ -60,7 +63,8 @@ class State:
         return self.kept["number"] // NUMBERS if self.kept else 0
 
     def keep(self, number, body, blank):
-        """Writes the file, unless it has this already. All is on the disk when the call returns."""
+        """Writes the file, unless it already has these values. All data is on the disk when the
+        call returns."""
         state = {"number": number, "body": body.decode(), "blank": blank}
         if state == self.kept:
             return
@@ -101,7 +105,7 @@ class CardMachine(Machine):
     # ---- the card
 
     def handle(self, order):
-        """Sends a line to the card handler, and returns the line that comes back."""
+        """Sends a line to the card handler, and returns the response line."""
         self.handler.sendall(f"{order}\n".encode())
         came = self.handler.recv(100).decode().strip()
         if not came:
@@ -109,7 +113,7 @@ class CardMachine(Machine):
         return came
 
     def serial_of(self, atr):
-        """The serial of the connected card, or None if it has none."""
+        """Returns the serial of the connected card, or None if it has none."""
         digits = historical(atr).hex()
         return int(digits) if digits.isdecimal() else None
 
@@ -125,7 +129,7 @@ class CardMachine(Machine):
             return None
 
     def put_out(self, tray):
-        """Moves the card to a tray. From then on the file says that no card is in."""
+        """Moves the card to a tray. Then the file says that no card is inserted."""
         self.reader.disconnect()
         if self.handle(f"out {tray}") == "out":
             self.counts[tray] += 1
@@ -164,8 +168,8 @@ class CardMachine(Machine):
     # ---- a session
 
     def tray_after(self, act, *arguments):
-        """Returns the tray for the result of `act`, and why the machine stops, if it does. Without
-        a reply the card stays in the reader."""
+        """Returns the tray for the result of `act`, and the reason if the machine stops. Without a
+        reply the card stays in the reader."""
         try:
             made = act(*arguments)
         except Stopped as why:
@@ -175,7 +179,7 @@ class CardMachine(Machine):
         return {True: GOOD, False: REJECTS, None: MAGAZINE}[made], None
 
     def recover(self):
-        """Repeats the request that was pending when the driver ended, and puts out its card."""
+        """Repeats the request that was pending when the driver ended, and moves its card to a tray."""
         kept, number = self.state.kept, self.number
         if not kept or kept["blank"] is None:
             return

@@ -1,8 +1,10 @@
 #!/usr/bin/env python3
-"""What ../first-look shows over the server on PORT: an office gives it a product, a lot of blanks and three cards, and a machine makes them, with
-replies that are lost on the way. Then come the report and the accounts, and the connections that the server still serves before it ends.
+"""Shows three cards that are made while replies are lost. Called by ./first-look.
 
-    python3 bench/demo/first_look.py PORT"""
+    python3 bench/demo/first_look.py PORT
+
+The server on PORT must be new. An office creates a product, a lot of blanks and a batch of three cards, and a machine makes them. Then the
+script prints the report and the account of the blanks, and uses the remaining connections of the server, so that it exits."""
 import http.client
 import pathlib
 import sys
@@ -14,7 +16,7 @@ LOSE = 20
 
 
 def ask(port, method, target, body=None):
-    """Status and body of the reply to one message."""
+    """Returns the status and the body of the response to one message."""
     link = http.client.HTTPConnection("127.0.0.1", port, timeout=60)
     try:
         link.request(method, target, body)
@@ -29,18 +31,18 @@ def show(port, method, target, body=None):
 
 
 class Shown(driver.Machine):
-    """A machine that prints each command that goes to its card, and where a reply was lost."""
+    """A machine that prints each command for its card, and each lost reply."""
 
     def send(self, body):
         reply = super().send(body)
         if reply is None:
-            print(f"no reply to number {self.number}: the same bytes go again", flush=True)
+            print(f"no reply to number {self.number}: sending the same bytes again", flush=True)
         return reply
 
     def make(self, batch, blank):
         print(f"\nblank {blank}", flush=True)
         made = super().make(batch, blank)
-        print({True: "good", False: "to the rejects", None: "no record is waiting: it returns to the magazine"}[made], flush=True)
+        print({True: "good", False: "rejected", None: "returned to the magazine: no record is waiting"}[made], flush=True)
         return made
 
     def card(self, command):
@@ -58,7 +60,7 @@ def main():
     blank = 1000
     while machine.make("B1", blank) is not None:
         blank += 1
-    print(f"{machine.sent} requests were sent, {machine.repeats} of them again")
+    print(f"{machine.sent} requests sent, {machine.repeats} of them repeats")
     show(port, "POST", "/c/office/4", '{"do":"close","batch":"B1"}')
     show(port, "GET", "/batch/B1/report")
     show(port, "GET", "/blanks/P1")
@@ -66,7 +68,7 @@ def main():
         while True:
             ask(port, "GET", "/blanks/P1")
     except (OSError, http.client.HTTPException):
-        print("\nThe server has served its turns, and ended.", flush=True)
+        print("\nThe server has served all its connections and exited.", flush=True)
     return 0
 
 

@@ -6,10 +6,10 @@
     python3 bench/demo/office.py batch B1 P1 batch.csv --wait
     python3 bench/demo/office.py remake B1 R7
 
-If a command is killed or gets no reply, repeat it. It takes effect only once: before its requests
-are sent, their numbers and bytes are stored in the state folder, and the next call sends them
-again. After their replies, even the same words get new request numbers, and the earlier ones are
-released. No other program may use the client name.
+If a command is killed or gets no reply, repeat it. It takes effect only once: before its
+requests are sent, their numbers and bytes are stored in the state folder, and the next call
+sends them again. After their replies, even the same command gets new request numbers, and the
+earlier ones are released. No other program may use the client name.
 
 Until a batch file has its reply, the state folder contains a copy of it, with its card data.
 
@@ -94,7 +94,7 @@ TEXTS = """
 72 number-reused: The request number was used before with different request bytes.
 73 number-released: The request number is released.
 74 release-too-far: A release must have a number above the numbers that it releases.
-400 malformed: The message is malformed: a program between may change it, or this one is wrong.
+400 malformed: The message is malformed: a proxy may have changed it, or this program is wrong.
 403 forbidden: The proxy doesn't allow this request to this client.
 404 no-route: The server doesn't have this path.
 405 method: The server doesn't allow this method for the path.
@@ -132,7 +132,7 @@ class Request(NamedTuple):
         return self.members()["do"] == "release"
 
     def subject(self) -> str:
-        """The object that the request changes."""
+        """Returns the object that the request changes."""
         asked = self.members()
         if asked["do"] in ("remake", "withdraw"):
             return f"record {asked['record']} of batch {asked['batch']}"
@@ -175,7 +175,8 @@ def body_of(**members: Any) -> str:
 
 
 def asks_of(requests: list[Request]) -> list[tuple[str, str, str]]:
-    """Client, path after the number, and body of the requests, without their release."""
+    """Returns the client, the path after the number, and the body of each request, without the
+    release."""
     return [(one.client, one.tail, one.body) for one in requests if not one.is_release()]
 
 
@@ -369,7 +370,8 @@ class Office:
     def once(
         self, asks: list[tuple[str, str, str]], draw: Callable[[Any], list[Request]]
     ) -> int:
-        """Finishes the pending requests. Unless they are these, sends these under new numbers."""
+        """Finishes the pending requests of an earlier call. Unless they are the same as `asks`,
+        sends `asks` under new numbers."""
         self.folder.lock()
         if self.folder.pending:
             is_same = (self.folder.server, asks_of(self.folder.pending)) == (self.line.server, asks)
@@ -393,7 +395,8 @@ class Office:
         return status
 
     def of_office(self, asks: list[tuple[str, str, str]]) -> list[Request]:
-        """Numbers requests of the office. White space in the release shows a used number: 72."""
+        """Numbers requests of the office. Random white space in the release makes a used number
+        visible: refusal 72."""
         client, last = self.given.client, self.folder.numbers.get(self.given.client, 0)
         first = max(last + 1, (int(time.time()) - START_OF_2026) * BOOT)
         if first + len(asks) > LARGEST_NUMBER:
@@ -403,7 +406,8 @@ class Office:
         return [Request(one, first + k, tail, body) for k, (one, tail, body) in enumerate(asks)]
 
     def of_machine(self, asks: list[tuple[str, str, str]]) -> list[Request]:
-        """Numbers a reset of a machine by a higher boot. Drivers don't use its first number."""
+        """Numbers a reset of a machine with a higher boot number. Drivers don't use the first
+        request number of a boot."""
         [(machine, tail, body)] = asks
         number = higher_boot(self.folder.numbers.get(machine, 0) // BOOT) * BOOT
         if number > LARGEST_SERIAL:
@@ -429,7 +433,8 @@ class Office:
         return status
 
     def replied(self, line: Line, request: Request, repeated: bool) -> Reply:
-        """Sends a request until it has a reply. A proxy's response doesn't end a sent one."""
+        """Sends a request until it has a reply. A response of a proxy doesn't end a request that
+        was sent before."""
         again = "the request is stored: repeat the command, or see 'pending --help'"
         try:
             reply = line.post(request, repeated)
@@ -440,8 +445,8 @@ class Office:
         return reply
 
     def learn(self, reply: Reply) -> None:
-        """Raises the last number after a refusal 73, for the office by a boot: whoever made this
-        release also used the numbers after it."""
+        """Raises the last number after a refusal 73. For the office it adds the numbers of a whole
+        boot, because the program that made this release also used the numbers after it."""
         client, last = reply.request.client, reply.members().get("mark", 0)
         if client == self.given.client:
             last += BOOT
@@ -450,7 +455,8 @@ class Office:
 
 
 def higher_boot(boot: int) -> int:
-    """Returns a boot number above `boot`: a clock's seconds if `boot` is like them."""
+    """Returns a boot number above `boot`. If `boot` looks like the seconds of a clock, returns the
+    seconds of this clock."""
     for clock in (int(time.time()) - START_OF_2026, int(time.time())):
         if clock // 2 < boot < clock:
             return clock
@@ -695,7 +701,7 @@ def bar(account: dict[str, Any], width: int = 30) -> str:
 
 
 def show(text: str, shown: str) -> None:
-    """Prints a line of progress. On a terminal it replaces the line before."""
+    """Prints a line of progress. On a terminal it replaces the previous line."""
     if text != shown and sys.stdout.isatty():
         print(f"\r{text:<{len(shown)}}", end="", flush=True)
     elif text != shown:
@@ -776,7 +782,7 @@ def release(office: Office, given: argparse.Namespace) -> int:
 
 
 def waited(office: Office, given: argparse.Namespace, status: int) -> int:
-    """Waits for a batch with --wait. Other calls may use the folder meanwhile."""
+    """Waits for a batch with --wait. Other calls may use the folder in the meantime."""
     if status or not given.wait:
         return status
     office.folder.held.close()
@@ -890,7 +896,7 @@ SERIALS = f"0 to {LARGEST_SERIAL}"
 
 
 class Commands:
-    """The subcommands, each with the options of all."""
+    """The subcommands, each with the common options."""
 
     def __init__(self) -> None:
         plain = argparse.RawDescriptionHelpFormatter
@@ -955,7 +961,7 @@ def add_changes(commands: Commands) -> None:
         help=f"serial of a bent or lost blank, {SERIALS}")
     for words in (
         commands.add_waiting(remake, "change failed records back to waiting", "batch"),
-        commands.add(withdraw, "exclude records from production for ever", "batch"),
+        commands.add(withdraw, "exclude records from production permanently", "batch"),
     ):
         words.add_argument(
             "record", type=name_word, nargs="+", metavar="RECORD",

@@ -1,6 +1,6 @@
-"""The calls of PC/SC that a driver needs, through libpcsclite.
+"""Calls the functions of PC/SC that a driver needs, through libpcsclite.
 
-Linux only, where a DWORD is an `unsigned long`. Needs Debian's libpcsclite1 and a running pcscd."""
+Requires Linux, where a DWORD is an `unsigned long`, Debian's libpcsclite1, and a running pcscd."""
 import ctypes
 import time
 from ctypes import byref, c_char, c_char_p, c_long, c_ubyte, c_ulong, c_void_p, sizeof
@@ -11,8 +11,8 @@ EXCLUSIVE = 1
 T0, T1 = 1, 2
 UNPOWER = 2
 TIMEOUT, SHARING_VIOLATION = 0x8010000A, 0x8010000B
-# The errors that come from the card: it is absent, doesn't transact, has another protocol, or is
-# unsupported, unresponsive, unpowered, reset or removed.
+# Errors of the card: it is absent, doesn't transact, has another protocol, or is unsupported,
+# unresponsive, unpowered, reset or removed.
 OF_CARD = 0x8010000C, 0x80100016, 0x8010000F, *range(0x80100065, 0x8010006A)
 LONGEST_ATR = 33
 LONGEST_ANSWER = 258
@@ -20,7 +20,7 @@ LOOK = 500  # milliseconds
 
 
 class Failed(Exception):
-    """A call failed. `is_of_card` says whether the card is the reason."""
+    """A call failed. `is_of_card` is true if the card is the reason."""
 
     def __init__(self, text, status=0):
         super().__init__(text)
@@ -69,7 +69,7 @@ class Reader:
         self._call("SCardEstablishContext", SYSTEM, None, None, byref(self.context))
 
     def _call(self, name, *arguments, passes=0):
-        """Calls a function. Returns its status, which has to be 0 or `passes`."""
+        """Calls a function. Returns its status, which must be 0 or `passes`."""
         status = getattr(self.library, name)(*arguments) & 0xFFFFFFFF
         if status not in (0, passes):
             text = self.library.pcsc_stringify_error(status).decode()
@@ -80,7 +80,8 @@ class Reader:
         return self._look(_State(reader=self.name, current=UNAWARE))
 
     def wait(self, present, seconds):
-        """Waits until a card is present, or none is. Returns False after that many seconds."""
+        """Waits until a card is present or absent, at most `seconds`. Returns whether this
+        happened."""
         state = _State(reader=self.name, current=UNAWARE)
         left = seconds * 1000
         while (is_present := self._look(state)) != present and left > 0:
@@ -88,7 +89,7 @@ class Reader:
         return is_present == present
 
     def _look(self, state):
-        """Waits for a change for a short time. Returns whether a card is present then."""
+        """Waits for a change for a short time. Returns whether a card is then present."""
         status = self._call(
             "SCardGetStatusChange", self.context, LOOK, byref(state), 1, passes=TIMEOUT
         )
@@ -97,8 +98,8 @@ class Reader:
         return bool(state.current & PRESENT)
 
     def connect(self, seconds):
-        """Powers the card, for this program only. Returns its ATR. Waits that many seconds for
-        another program that uses the card, such as a driver that was killed."""
+        """Powers the card, for this program only, and returns its ATR. If another program uses the
+        card, such as a driver that was just killed, waits up to `seconds`."""
         end = time.monotonic() + seconds
         while True:
             try:
@@ -120,7 +121,7 @@ class Reader:
         return atr.raw[: size.value]
 
     def transmit(self, command):
-        """Sends a command once, as it is, and returns all that the card answers."""
+        """Sends a command once, unchanged, and returns the complete answer of the card."""
         request = _Request(self.protocol, sizeof(_Request))
         size, answer = c_ulong(LONGEST_ANSWER), ctypes.create_string_buffer(LONGEST_ANSWER)
         self._call(
@@ -130,7 +131,7 @@ class Reader:
         return answer.raw[: size.value]
 
     def disconnect(self):
-        """Powers the card off, if there is a connection. It may be gone already."""
+        """Powers the card off, if there is a connection. The connection may have ended already."""
         if self.link is not None:
             self.library.SCardDisconnect(self.link, UNPOWER)
             self.link = None

@@ -1,25 +1,26 @@
 #!/usr/bin/env python3
-"""Runs every command of the pages as it is printed, each page in a fresh folder, and compares what it prints where the page shows it.
+"""Runs every command of the pages in a new folder, and compares the output with the page.
 
     bench/run commands [PAGE..]
 
-A block is what stands between fences, or what is indented by four spaces. Its lines are commands, and behind each what it prints, if the page shows that;
-`..` at the end of a line stands for its rest, and alone for any lines. A comment in front of a block says otherwise:
+A block is what is between fences or indented by four spaces. It has commands, each followed by its output if the page shows it. `..` at the end
+of a line represents the rest of the line, and on its own line any number of lines. A comment before a block changes its treatment:
 
     <!-- not run: WHY -->        nothing of it is run
-    <!-- prints -->              the last command of the block before prints it
+    <!-- prints -->              the output of the last command of the previous block
     <!-- after the set-up -->    first a server is started on a new file, and gets the set-up of docs/PROTOCOL.md, section 8
-    <!-- runs on -->             the command goes on in a terminal of its own; the next such block stops it first, by Ctrl-C
+    <!-- runs on -->             the command runs in a terminal of its own; the next such block stops it first, by Ctrl-C
     <!-- runs on, with the set-up -->    the same, and the server gets the set-up
-    <!-- runs on, N turns -->    the same with --turns N or TURNS=N in it, and its turns are used up twice
-    <!-- once it is stopped -->  what ran on is stopped first
-    <!-- exchange -->            requests and replies of section 8, over a server
-    <!-- drill -->               lines of a drill behind the set-up, and beside each what it prints
-    <!-- sql -->                 a query, over the file of a server that got the set-up
+    <!-- runs on, N turns -->    the same with --turns N or TURNS=N in it, and its connections are used up twice
+    <!-- once it is stopped -->  the command in the terminal is stopped first
+    <!-- exchange -->            requests and replies of section 8, sent to a server
+    <!-- drill -->               lines of a drill after the set-up, each with its output
+    <!-- sql -->                 a query of the file of a server that got the set-up
 
-A command that shows no output has to end with status 0, and its output names no refusal. One that ends with & runs beside the others, and it is waited
-for until it listens. In place of port 8807 there is a free one, in place of the page's day the day, and in place of /srv/persod the folder. What stands at
-the top of the repository is at hand. A page that needs a program which isn't here says so, and goes on. Last, each link of every page has to lead to a file."""
+A command without shown output must exit with status 0, and its output must not name a refusal. A command that ends with & runs in the
+background, and the script waits until it listens. Port 8807 is replaced by a free port, the day of the page by today, and /srv/persod by the
+folder. The folder has links to the entries at the top of the repository. If a page needs a program that isn't on this machine, the script says
+so and continues. Finally, each link of every page must lead to a file. Exit status: 1 if an output differs or a link is dead."""
 import atexit
 import datetime
 import os
@@ -55,7 +56,7 @@ END = "end-of-the-command"
 
 
 class Stale(Exception):
-    """A page that says something else than what comes."""
+    """A page that differs from the actual output."""
 
 
 # ---- reading a page
@@ -63,7 +64,7 @@ class Stale(Exception):
 
 @dataclass
 class Block:
-    """A block of a page, by its first line's number, with what its comment says."""
+    """A block of a page, with the number of its first line and the text of its comment."""
 
     line: int
     comment: str
@@ -111,7 +112,7 @@ def is_whole(text: str) -> bool:
 
 
 def commands(block: Block) -> list[Command]:
-    """The commands of a block, each with the lines behind it that are none."""
+    """Returns the commands of a block, each with the lines of output after it."""
     found: list[Command] = []
     for number, line in enumerate(block.lines, block.line):
         if found and not found[-1].shown and (found[-1].text.endswith("\\") or not is_whole(found[-1].text)):
@@ -121,12 +122,12 @@ def commands(block: Block) -> list[Command]:
         elif found:
             found[-1].shown.append(line)
         else:
-            raise Stale(f"{number}: no command, and no comment says what it is: {line}")
+            raise Stale(f"{number}: not a command, and without a comment: {line}")
     return found
 
 
 def agrees(shown: list[str], came: list[str]) -> bool:
-    """Whether what came is what the page shows, `..` being anything."""
+    """Returns whether the output `came` is what the page shows. `..` matches anything."""
     if not shown:
         return not came
     if shown[0] == "..":
@@ -141,7 +142,7 @@ def agrees(shown: list[str], came: list[str]) -> bool:
 
 
 class Job:
-    """A command that runs beside the others, in a session of its own."""
+    """A command that runs in the background, in its own session."""
 
     def __init__(self, text: str, folder: pathlib.Path, environment: dict[str, str]) -> None:
         self.output = tempfile.TemporaryFile("w+")
@@ -157,13 +158,13 @@ class Job:
         return self.output.read().splitlines()
 
     def new_lines(self) -> list[str]:
-        """What it printed since it was asked."""
+        """Returns the lines printed since the last call."""
         lines = self.lines()
         self.seen, new = len(lines), lines[self.seen :]
         return new
 
     def listens(self, count: int = 1) -> None:
-        """Waits until it listens for so many times, or has ended."""
+        """Waits until it has printed `listening` `count` times, or has exited."""
         begun = time.monotonic()
         while sum(line.startswith("listening ") for line in self.lines()) < count and self.process.poll() is None:
             if time.monotonic() > begun + SECONDS:
@@ -181,7 +182,7 @@ class Job:
 
 
 class Page:
-    """A page, its folder, and what runs beside its commands."""
+    """A page, its folder, and the commands that run in the background."""
 
     def __init__(self, name: str, program: str, shopbook: str, folder: pathlib.Path) -> None:
         self.name, self.folder, self.port = name, folder, free_port()
@@ -205,7 +206,7 @@ class Page:
         )
 
     def here(self, text: str) -> str:
-        """A text of the page with the port, the day and the folder of this run."""
+        """Returns a text of the page with the port, the day and the folder of this run."""
         text = text.replace("8807", str(self.port)).replace(DAY, datetime.date.today().isoformat())
         return text.replace("/srv/persod", str(self.folder))
 
@@ -246,7 +247,7 @@ class Page:
 
     def compare(self, shown: list[str], came: list[str]) -> None:
         if not agrees(shown, came):
-            raise Stale("the page shows\n  " + "\n  ".join(shown) + "\nand there came\n  " + "\n  ".join(came))
+            raise Stale("the page shows\n  " + "\n  ".join(shown) + "\nbut the output is\n  " + "\n  ".join(came))
         self.compared += 1
 
     def command(self, command: Command) -> None:
@@ -269,14 +270,14 @@ class Page:
         if command.shown:
             self.compare(command.shown, came)
         elif status != 0 or any('"refused"' in line or line.startswith("refused ") for line in came):
-            raise Stale(f"{command.text}\nended with status {status}, and printed\n  " + "\n  ".join(came))
+            raise Stale(f"{command.text}\nexited with status {status}, and printed\n  " + "\n  ".join(came))
 
     def waited(self, job: Job) -> list[str]:
         job.process.wait(SECONDS)
         return job.new_lines()
 
     def asked(self, text: str) -> tuple[int, list[str]]:
-        """A command's status and what it prints, in the page's shell."""
+        """Runs a command in the page's shell, and returns its exit status and output."""
         script = self.folder / "bin" / "command"
         script.write_text(text + "\n")
         assert self.shell.stdin and self.shell.stdout
@@ -291,13 +292,13 @@ class Page:
                 break
             lines.append(line.rstrip("\n"))
         else:
-            raise Stale(f"{text}\nended the shell, or didn't end: {lines}")
+            raise Stale(f"{text}\nended the shell, or didn't exit: {lines}")
         while lines and not lines[-1]:
             lines.pop()
         return int(line.split(" ")[1]), lines
 
     def start_set_up(self) -> str:
-        """A server with the set-up, on a file of its own, whose path it answers."""
+        """Starts a server on a new file, sends it the set-up, and returns the path of the file."""
         database = f"{tempfile.mkdtemp(dir=self.folder)}/shop.db"
         self.terminal = Job(f"exec persod serve --db {database} --port {self.port} --turns 1000000", self.folder, self.environment)
         self.terminal.listens()
@@ -328,15 +329,15 @@ class Page:
         if "with the set-up" in block.comment:
             self.ask_set_up()
         if self.terminal.process.poll() is not None:
-            raise Stale(f"it doesn't run on: {self.terminal.lines()}")
+            raise Stale(f"it has exited: {self.terminal.lines()}")
         self.ran += 1
 
     def run_exchanges(self) -> None:
-        """Those of all blocks are one story."""
+        """Runs the exchanges of all blocks of the page as one case."""
         [case] = cases.exchanges_of(f"== {self.name}\n{self.exchanges}")
         count = exchanges.run(self.program, self.name, case, exchanges.whole)
         if count.differences:
-            raise Stale(f"{self.name}: {count.differences} of its exchanges came otherwise")
+            raise Stale(f"{self.name}: {count.differences} of its exchanges differ")
         self.ran += count.connections
         self.compared += count.connections
 
@@ -358,7 +359,7 @@ class Page:
 
 
 def look(name: str, program: str, shopbook: str) -> bool:
-    """Whether a page says what comes."""
+    """Returns whether the outputs of a page are correct."""
     with tempfile.TemporaryDirectory() as folder:
         page = Page(name, program, shopbook, pathlib.Path(folder))
         try:
@@ -373,20 +374,20 @@ def look(name: str, program: str, shopbook: str) -> bool:
 
 
 def dead_links() -> list[str]:
-    """The links that lead nowhere, of all pages."""
+    """Returns the dead links of all pages."""
     pages = [page for folder in (".", "docs", "bench", "examples") for page in sorted((TOP / folder).glob("*.md"))]
     links = [(page, link) for page in pages for link in LINK.findall(page.read_text())]
-    return [f"{page.relative_to(TOP)} links to {link}, which isn't there" for page, link in links if not (page.parent / link).exists()]
+    return [f"{page.relative_to(TOP)} links to {link}, which doesn't exist" for page, link in links if not (page.parent / link).exists()]
 
 
 def main() -> int:
     programs = [os.path.abspath(program) for program in sys.argv[1:3]]
     for program in programs:
         if not os.access(program, os.X_OK):
-            sys.exit(f"{program} is no program: ./install makes one, and PERSOD or SHOPBOOK names another")
+            sys.exit(f"{program} is not an executable file; make one with ./install, or name one in PERSOD or SHOPBOOK")
     looked = [look(name, *programs) for name in sys.argv[3:] or PAGES]
     dead = dead_links()
-    print("\n".join([*dead, f"{len(looked)} pages, {looked.count(False)} of them stale; {len(dead)} links that lead nowhere"]))
+    print("\n".join([*dead, f"{len(looked)} pages, {looked.count(False)} of them stale; {len(dead)} dead links"]))
     return 0 if all(looked) and not dead else 1
 
 

@@ -1,13 +1,13 @@
-"""The edges of the two pictures of ARCHITECTURE.md, read from crates.txt and from the code and definitions of the crates."""
+"""Reads the edges of the two pictures of ARCHITECTURE.md from crates.txt and from the code and definitions of the crates."""
 from __future__ import annotations
 
 import pathlib
 import re
 
 TOP = pathlib.Path(__file__).resolve().parents[2]
-# Comments, and attributes, which are only for proofs.
+# Comments and attributes, which are only for proofs.
 IGNORED = {".rt": re.compile(r"//.*|^ *#!?\[[^\]]*\]", re.M), ".antt": re.compile(r"--.*")}
-# The beginning of a function, type or definition, which ends at the next one.
+# The start of a function, type or definition, which ends at the next one.
 BEGIN = {".rt": re.compile(r"^(?:pub(?:\([a-z]+\))? )?(?:(?:fn|struct|enum|trait) |impl\b(?:.* for|<[^{]*>|) )(\w+)", re.M),
          ".antt": re.compile(r"^(?:(?:abbrev|unfoldable|unfolding|pub|record|data) )*(\w+)", re.M)}
 USE = re.compile(r"^ *(?:ghost |pub )?use (Rattle\.)?(\w+)(?:(?:::|\.)\w+)*?(?:(?:::|\.)(?:\{([^}]*)\}|(\w+)))?(?: as (\w+))?;?$", re.M)

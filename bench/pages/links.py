@@ -1,12 +1,17 @@
 #!/usr/bin/env python3
-"""Checks the links of all pages: those at the top, in docs/ and in examples/, and bench/README.md. Fails if a link is broken.
+"""Checks that the links of all pages lead to existing files and headings.
 
     bench/run links
 
-The target of a link must be an existing file or folder of this repository, and an anchor must be a heading of its page. If the text of a link is a name in
-code and its target is a source file, such as [`Cursor::put`](../crates/store_data/src/cursor.rt), the last part of the name must occur in this file as a
-word, or be the name of the crate. In a file of Rattle code it must follow `fn`, `struct`, `enum` or `trait`. Each file that a cell of CONTRIBUTING.md names
-as `crate`: `file.rt` or `S/File.antt` must exist, too."""
+The pages are those at the top of the repository, in docs/ and in examples/, and bench/README.md. The target of a link must be an existing file
+or folder of this repository, and an anchor must be a heading of its page.
+
+If the text of a link is a name in code and its target is a source file, such as [`Cursor::put`](../crates/store_data/src/cursor.rt), the last
+part of the name must occur in this file as a word, or be the name of the crate. In a file of Rattle code it must follow `fn`, `struct`, `enum`
+or `trait`.
+
+Each file that a table cell of CONTRIBUTING.md names as `crate`: `file.rt` or `S/File.antt` must also exist. Exit status: 1 if a link is broken
+or a file is missing."""
 import pathlib
 import re
 import sys
@@ -25,7 +30,7 @@ def pages() -> list[pathlib.Path]:
 
 
 def anchors(page: pathlib.Path) -> set[str]:
-    """The anchors of a page: its headings, in the form that GitHub and GitLab give them."""
+    """Returns the anchors of a page: its headings, in the form of GitHub and GitLab."""
     heads = re.findall(r"^#+ (.*)$", page.read_text(), re.M)
     return {re.sub(r"[^\w\- ]", "", head.lower()).replace(" ", "-") for head in heads}
 
@@ -46,7 +51,7 @@ def fault(page: pathlib.Path, text: str, target: str, anchor: str) -> str:
 
 
 def missing_files(page: pathlib.Path) -> list[str]:
-    """The files that the table of changes names and that don't exist."""
+    """Returns the files that the table in CONTRIBUTING.md names and that don't exist."""
     found = []
     for crate, files in CELL.findall(page.read_text()):
         for name in re.findall(r"`([\w/]+\.(?:rt|antt))`", files):

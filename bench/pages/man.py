@@ -1,10 +1,11 @@
 #!/usr/bin/env python3
-"""Writes the man pages, from the help of the programs, the texts in man/*.md, and tables of the pages.
+"""Writes the man pages from the help of the programs, the texts in man/*.md, and tables of the pages.
 
     bench/run man            writes man/man1/ and man/man5/
     bench/run man --check    fails if a man page differs from its sources, or if groff warns about it
 
-A text is Markdown with a title such as `# persod(1)`, which the first line of the help completes, or `# persod-batch(5): WHAT IT IS`. These lines are replaced:
+A text is Markdown with a title such as `# persod(1)`, which is completed by the first line of the help, or `# persod-batch(5): PURPOSE`. These
+lines are replaced:
 
     <!-- help: commands -->    the subcommands with their options; also `options`, `exit statuses` and `environment`
     <!-- table of PAGE: HEADER, .. -->    the table of a page whose header has these cells
@@ -95,14 +96,14 @@ def italic(text: str) -> str:
 
 
 def inline(text: str) -> str:
-    """A text with code in backticks and links, which lose their targets."""
+    """Returns a text in roff. Code in backticks becomes bold, and links lose their targets."""
     text = re.sub(r"\[([^]]*)\]\([^)]*\)", r"\1", text)
     parts = [bold(part) if place % 2 else escaped(part) for place, part in enumerate(text.split("`"))]
     return lines("".join(parts))
 
 
 def lines(text: str) -> str:
-    """A sentence on each line, none of which is a request."""
+    """Returns the text with each sentence on its own line. No line is a roff request."""
     return re.sub(r"(?m)^(?=[.'])", r"\\&", re.sub(r"(?<=[a-z0-9)R]\.) (?=\S)", "\n", text))
 
 
@@ -114,11 +115,11 @@ def example(text: str) -> str:
     return "\n".join([".PP", ".RS 4", ".nf", *(rf"\&{escaped(line)}".replace("'", r"\(aq") for line in text.split("\n")), ".fi", ".RE"])
 
 
-# ---- the parts that come from the programs
+# ---- parts from the programs
 
 
 def paragraph_of(helps: list[Help], label: str) -> str:
-    """The paragraph with this label, which must be the same in every help text that has it."""
+    """Returns the paragraph with this label, which must be the same in every help text that has it."""
     found = {paragraph.removeprefix(label) for text in helps for paragraph in text.rest if paragraph.startswith(label)}
     if len(found) != 1:
         raise SystemExit(f"{len(found)} help texts differ in '{label}'")
@@ -126,7 +127,7 @@ def paragraph_of(helps: list[Help], label: str) -> str:
 
 
 def usage(text: Help) -> str:
-    """The usage with each optional option in place of `[OPTIONS]`."""
+    """Returns the usage with the optional options instead of `[OPTIONS]`."""
     optional = " ".join(f"[{option.roff()}]" for option in text.own() if f"{option.name} " not in f"{text.usage} ")
     words = re.sub(r" \[OPTIONS\]", "", text.usage)
     words = re.sub(r"<(\w+)>|([^ <>]+)", lambda word: italic(word[1]) if word[1] else bold(word[2]), words)
@@ -157,7 +158,7 @@ def help_part(part: str, program: Help, helps: dict[str, Help]) -> str:
     raise SystemExit(f"man.py has no part '{part}'")
 
 
-# ---- the parts that come from the texts and pages
+# ---- parts from the texts and pages
 
 
 def rows_of(table: list[str]) -> list[list[str]]:
@@ -165,7 +166,7 @@ def rows_of(table: list[str]) -> list[list[str]]:
 
 
 def entries(table: list[str]) -> str:
-    """The rows of a table, without its header."""
+    """Returns the rows of a table, without its header."""
     return "\n".join(tagged(inline(" ".join(cells if "`" in cells[0] else [f"`{cell}`" for cell in cells])), text) for *cells, text in rows_of(table[2:]))
 
 
@@ -195,7 +196,7 @@ def block_of(block: str, program: Optional[Help], helps: dict[str, Help]) -> str
 
 
 def page_of(source: Path, programs: dict[str, Path]) -> tuple[str, str]:
-    """The path and the text of the man page of a source."""
+    """Returns the path and the text of the man page of a source."""
     title, *blocks = re.split(r"\n\n(?! )|\n\n(?=    )", source.read_text().rstrip("\n"))
     name, section, purpose = re.fullmatch(r"# ([\w-]+)\((\d)\)(?:: (.*))?", title).groups()
     program, helps, parts = None, {}, []

@@ -1,12 +1,13 @@
 #!/usr/bin/env python3
-"""Draws the two pictures of ARCHITECTURE.md. All arrows come from edges.py, and this script has the places of the boxes.
+"""Draws the two pictures of ARCHITECTURE.md.
 
     bench/run pictures            writes docs/architecture.svg and docs/contracts.svg
     bench/run pictures --check    fails if a picture differs from the sources, for example if it has an arrow without an edge
 
-In docs/architecture.svg an arrow points from a section of crates.txt to a section that it uses. In docs/contracts.svg it points from a box to a box with names
-that the first one uses in its code, contracts or definitions, directly or through names without a box. An arrow is left out if other arrows already lead there.
-The script also fails if an arrow crosses a box, or if a text doesn't fit."""
+edges.py supplies all arrows. This script has the positions of the boxes. In docs/architecture.svg an arrow points from a section of crates.txt
+to a section that it uses. In docs/contracts.svg it points from a box to a box with names that the first one uses in its code, contracts or
+definitions, directly or through names without a box. An arrow is left out if other arrows already lead there. The script also fails if an arrow
+crosses a box, or if a text doesn't fit."""
 from __future__ import annotations
 
 import sys
@@ -84,7 +85,7 @@ class Box(NamedTuple):
     height: int
 
     def arrow_to(self, other: Box) -> tuple:
-        """The ends of a straight arrow to a box that faces this one, or nothing."""
+        """Returns the ends of a straight arrow to a box that faces this one, or nothing."""
         left, right = max(self.x, other.x), min(self.x + self.width, other.x + other.width)
         top, bottom = max(self.y, other.y), min(self.y + self.height, other.y + other.height)
         x, y = (left + right) // 2, (top + bottom) // 2
@@ -100,7 +101,7 @@ class Box(NamedTuple):
 
 
 class Picture:
-    """An SVG of boxes, texts and arrows, and the faults that were found while it was drawn."""
+    """An SVG of boxes, texts and arrows, and the faults found while drawing it."""
 
     def __init__(self, file: str, width: int, height: int, description: str, edges: set) -> None:
         self.file, self.edges, self.boxes, self.arrows, self.faults = f"docs/{file}", edges, {}, set(), []

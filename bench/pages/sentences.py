@@ -1,15 +1,18 @@
 #!/usr/bin/env python3
-"""Counts the words in the sentences of each page at the top, in docs/, bench/ and examples/, and fails if a page has long sentences.
+"""Counts the words in the sentences of the pages, and fails if a page has long sentences.
 
     bench/run sentences [--show] [PAGE..]
 
-What counts: the running text, that is paragraphs and the items of lists. Code blocks, tables, headings and comments don't count. A paragraph, and each
-item of a list, begins and ends a sentence of its own. Within it a sentence ends at a full stop, a question mark or an exclamation mark, also before a
-closing mark of emphasis, a quote or a bracket, where white space and then no small letter follow. A colon or a semicolon ends none. A word is what
-stands between white space and has a letter or a digit. A span of code is one word, the text of a link counts as it is, and its target doesn't.
+The pages are those at the top of the repository, in docs/, bench/ and examples/. Only running text counts: paragraphs and list items, but not
+code blocks, tables, headings and comments.
 
-A page passes where its sentences have at most 20 words in the mean and none has over 40. --show prints each sentence that is longer than 40
-words, or, where the mean is above 20, each that is longer than 30. The exit status is 1 where a page doesn't pass.
+A paragraph and each list item begin and end a sentence. Within them, a sentence ends at a full stop, a question mark or an exclamation mark,
+followed by optional closing marks (emphasis, quote or bracket), white space, and anything except a lower-case letter. A colon or a semicolon
+doesn't end a sentence. A word is a text between white space that has a letter or a digit. A code span counts as one word. The text of a link
+counts, but its target doesn't.
+
+A page passes if its sentences have at most 20 words on average and at most 40 words each. --show prints each sentence with more than 40 words,
+or with more than 30 if the average is above 20. Exit status: 1 if a page doesn't pass.
 """
 import pathlib
 import re
@@ -24,7 +27,7 @@ ABBREVIATIONS = re.compile(r"\b(e\.g|i\.e|vs)\.")
 
 
 def paragraphs(text: str) -> Iterator[str]:
-    """The paragraphs and items of a page, each as one line."""
+    """Yields the paragraphs and list items of a page, each as one line."""
     fenced = False
     gathered: list[str] = []
     for line in [*text.split("\n"), ""]:
@@ -52,7 +55,7 @@ def words(sentence: str) -> int:
 
 
 def look(page: pathlib.Path, show: bool) -> bool:
-    """Whether a page passes, which is printed with its numbers."""
+    """Prints the result of a page, and returns whether it passes."""
     found = list(sentences(page.read_text()))
     counts = [words(sentence) for sentence in found] or [0]
     mean, most = sum(counts) / len(counts), max(counts)

@@ -1,12 +1,14 @@
 #!/usr/bin/env python3
-"""Opens the sheet of a batch in a browser, without a window: a batch of 12 records, of which some are good, one is spoiled and made again, one runs, and
-the rest waits. It fails where the page has a script or names another file, where the browser doesn't show its texts, or where the digest of the close
-report is another than that of what `persod report` writes.
+"""Opens a batch sheet of `shopbook` in a browser without a window, and checks the page.
 
-    bench/run sheet              looks at the page
-    bench/run sheet --picture    writes docs/sheet.png too, which a person has to look at
+    bench/run sheet              checks the page
+    bench/run sheet --picture    also writes docs/sheet.png, which a person must look at
 
-It wants Debian's chromium, and as root runs that without its sandbox."""
+The batch has 12 records. Some are good, one was spoiled and remade, one is running, and the others are waiting. The script fails if the page has
+a script or refers to another file, if the browser doesn't show its texts, or if its digest of the close report isn't that of the output of
+`persod report`.
+
+Requires Debian's chromium. As root, it runs without its sandbox."""
 import hashlib
 import os
 import pathlib
@@ -28,16 +30,16 @@ WANTED = ["Batch B1", "Product P1, open", "R3", "1002", "6A80", "SHA-256 of the 
 
 
 def looked(*words: str) -> str:
-    """What the browser prints."""
+    """Runs the browser, and returns its output."""
     alone = ["--no-sandbox"] if os.geteuid() == 0 else []
     words = (BROWSER or "", "--headless", "--disable-gpu", "--hide-scrollbars", *alone, *words)
     ran = subprocess.run(words, capture_output=True, text=True, timeout=120)
-    expect("the browser's status", ran.returncode, 0)
+    expect("the exit status of the browser", ran.returncode, 0)
     return ran.stdout
 
 
 def make_cards(program: str, database: pathlib.Path) -> None:
-    """Five cards, of which the third is spoiled; its record is made again, and a sixth card runs."""
+    """Makes five cards, the third of which is spoiled. Its record is remade, and a sixth card is running."""
     server = Server(program, database, free_port())
     stock(server.port, 20, 12)
     run(program, "feed", "--port", server.port, "--machine", "m1", "--boot", 7, "--batch", "B1", typed="".join(f"{card}\n" for card in CARDS))
@@ -48,7 +50,7 @@ def make_cards(program: str, database: pathlib.Path) -> None:
 
 def main() -> None:
     if not BROWSER:
-        sys.exit("sheet: there is no chromium here")
+        sys.exit("sheet: chromium isn't on this machine")
     program, shopbook = sys.argv[1:3]
     with tempfile.TemporaryDirectory() as name:
         folder = pathlib.Path(name)
@@ -57,14 +59,14 @@ def main() -> None:
         printed = subprocess.run([shopbook, "sheet", "--db", database, "--batch", "B1"], capture_output=True, check=True).stdout
         page.write_bytes(printed)
         found = re.findall(rb"(?i)<script|\bon[a-z]+=|\bsrc=|\bhref=|url\(", printed)
-        expect("scripts and other files in the page", found, [])
+        expect("scripts in the page and references to other files", found, [])
         report = subprocess.run([program, "report", "--db", database, "--batch", "B1"], capture_output=True, check=True).stdout
         wanted = [*WANTED, hashlib.sha256(report).hexdigest()]
         shown = looked("--dump-dom", page.as_uri())
-        expect("what isn't shown", [text for text in wanted if text not in shown], [])
+        expect("texts that aren't shown", [text for text in wanted if text not in shown], [])
         picture = TOP / "docs" / "sheet.png" if "--picture" in sys.argv else folder / "sheet.png"
         looked(f"--screenshot={picture}", f"--window-size={SIZE}", page.as_uri())
-        expect("whether there is a picture", picture.stat().st_size > 0, True)
+        expect("a picture was written", picture.stat().st_size > 0, True)
     print(f"the sheet of a batch: {len(printed)} bytes, shown by {BROWSER}")
 
 

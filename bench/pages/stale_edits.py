@@ -1,10 +1,10 @@
 #!/usr/bin/env python3
-"""Looks at each edit of the crates, and fails where one can't be applied.
+"""Checks that each edit in must-fail and more-edits can be applied to its file.
 
     bench/run stale_edits
 
-An edit, in must-fail or in more-edits, names a file and has pairs of lines, `old: TEXT` and `new: TEXT`. The old text has to stand in the file once, as the
-pairs before have left it. `rt check` says so of those in must-fail alone."""
+An edit names a file, and has pairs of lines, `old: TEXT` and `new: TEXT`. The old text must occur in the file exactly once, after the previous
+pairs were applied. `rt check` tests this only for edits in must-fail. Exit status: 1 if an edit can't be applied."""
 import pathlib
 import sys
 from typing import Optional
@@ -13,7 +13,7 @@ TOP = pathlib.Path(__file__).resolve().parents[2]
 
 
 def fault(edit: pathlib.Path) -> Optional[str]:
-    """Why an edit can't be applied."""
+    """Returns the reason why an edit can't be applied, or None."""
     path, old, texts = edit, "", {}
     for line in edit.read_text().splitlines():
         word, _, text = line.partition(":")
@@ -21,14 +21,14 @@ def fault(edit: pathlib.Path) -> Optional[str]:
         if word == "file":
             path = edit.parents[1] / text
             if not path.is_file():
-                return f"there is no {text}"
+                return f"{text} doesn't exist"
             texts.setdefault(path, path.read_text())
         elif word == "old":
             old = text
         elif word == "new":
             count = texts.get(path, "").count(old)
             if count != 1:
-                return f"{path.name} has its text {count} times: {old}"
+                return f"{path.name} has the old text {count} times: {old}"
             texts[path] = texts[path].replace(old, text)
     return None if any(path.read_text() != text for path, text in texts.items()) else "it changes nothing"
 
