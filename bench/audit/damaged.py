@@ -1,11 +1,10 @@
 #!/usr/bin/env python3
 """Changes one thing in sound files, and checks that each changed file is accepted or refused correctly.
 
-The expected verdicts are those of docs/TABLES.md.
-
     bench/run damaged
 
-Both auditor.py and `persod` judge the files. To use only auditor.py, run `python3 bench/audit/damaged.py` without a program.
+The expected verdicts follow from docs/TABLES.md. Both auditor.py and `persod` judge the files. To use only auditor.py, run `python3
+bench/audit/damaged.py` without a program.
 
 Each file is made four times: with the tables and indices of the server, with the tables in another order, and in schema versions 2 and 1 if they
 have what is changed. For each file with damaged rows, the rule of auditor.py that must find the damage is given. Exit status: 1 if a verdict is

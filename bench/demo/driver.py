@@ -24,7 +24,7 @@ TRIES = 100
 LONGEST_PAUSE = 1
 NUMBERS = 10_000_000
 START_OF_2026 = 1_767_225_600
-# If so many cards in a row aren't blanks of the product, the magazine has the wrong cards.
+# If this many cards in a row aren't blanks of the product, the magazine has the wrong cards.
 MOST_STRAYS = 3
 
 

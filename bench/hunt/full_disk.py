@@ -11,9 +11,8 @@ a request gets status 503. While the disk is full:
 
 - the same request gets status 503 again
 - the accounts are unchanged, and earlier requests get their replies again
-- a request of another client gets status 503 or is executed
-- in every third round, the server is killed and started. It must listen, or exit with status 3 and
-  `storage`
+- a request of another client gets status 503, or is refused as on a disk with space
+- in every third round, the server is killed and started. It must listen, or exit with status 3 and `storage`
 
 When there is space again, the request is repeated. At the end all requests are sent to a server on a new file that always had space. Replies,
 accounts, reports and the rows of all tables must be the same. Exit status: 1 if a check fails."""

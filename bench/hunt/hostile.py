@@ -3,9 +3,9 @@
 
     bench/run hostile [--folder FOLDER] [--connections N] [--slow N] [--patience N] [--seed N]
 
-Half of the connections are reset midway. Each of the others must get the response that its bytes require, or none. N more connections send
-nothing or stop within a message, and N more send a byte from time to time. The server must close these after 5 s and after 10 s, as
-docs/PROTOCOL.md says, and send no response.
+Half of the connections are reset midway. Each of the others must get the response that its bytes require, or no response if they require none. N
+more connections send nothing or stop within a message, and N more send a byte from time to time. The server must close these after 5 s and after
+10 s, as docs/PROTOCOL.md says, and send no response.
 
 Each request of a machine must get its reply in the time that the connections before it may take: 0.25 s for each, and 3 s for an import or a
 body of 16 MiB. Both limits are multiplied by --patience, which a build without proofs needs. Memory may grow by 1 MiB from the first tenth of

@@ -4,8 +4,8 @@
     bench/run proxy               attacks both configuration files as they are
     bench/run proxy --without     also removes each line of both files in turn, and expects that an attack or an honest request then goes wrong
 
-The files are persod.conf and persod-tls.conf, and the rule is persod.nft. Loopback addresses 127.0.7.x replace 10.0.7.x. The office imports
-batches, machines make cards, and the office ends the session of a machine that is gone. The attacks are:
+The configuration files are persod.conf and persod-tls.conf. The script also tries the nftables rule persod.nft. Loopback addresses 127.0.7.x
+replace 10.0.7.x. The office imports batches, machines make cards, and the office ends the session of a machine that is gone. The attacks are:
 
 - a machine that acts as the office: under the office's name, under its own with every spelling of `do`, in pieces, in chunks, and in large
   bodies
@@ -331,7 +331,7 @@ def connect() -> None:
 
 
 def reached(rule: str) -> None:
-    """Loads a rule in this namespace, and prints which user then reaches a listener of which user."""
+    """Loads a rule in this namespace. Prints each pair of users if the first can then connect to a listener of the second."""
     for words in (("ip", "link", "set", "lo", "up"), ("nft", "-f", rule), ("nft", "-f", rule)):
         subprocess.run(words, check=True)
     for server in ("daemon", "nobody", "root"):

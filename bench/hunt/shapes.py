@@ -3,7 +3,7 @@
 
     bench/run shapes [--seed TEXT] [--cases N] [--jobs N]
 
-No contract excludes that a call reports out of memory, a fault of the store or a failed write although nothing failed. The script therefore
+No contract rules out a call that reports out of memory, a fault of the store or a failed write although nothing failed. The script therefore
 makes batches, exchanges and messages of every shape and size up to each limit, by a seed, as files in the formats of docs/WORKED.md. The program
 `worked` runs them. It fails if a case ends with such an error, or if two ways of running it differ. Some hundreds more run with `persod plan`
 and `persod drill`. A case is one batch, one request or one message.
@@ -34,7 +34,7 @@ from shapes_messages import message_cases
 
 SEED = "shapes"
 CASES = 20_000
-# The long cases are added if there are at least so many.
+# With at least this many cases, the long cases are added.
 LONG = 10_000
 # The numbers of records that the longest report makes and withdraws: enough for more than 65,536 bytes, but not more, because each further card
 # costs more in a store of lists.

@@ -11,8 +11,8 @@ first alone, then next to each of these crowds, and then alone again:
     half      a flood of connections that send only the first part of a message
     reset     a flood of connections that are reset at once
 
-During each flood, 100 messages are also sent in two pieces, 20 ms apart. Every request must get its reply, and so must every message in two
-pieces, except next to `half`. There the server drops the message that has waited longest. A message that pauses for 20 ms may be this one if
+During each flood, 100 messages are also sent in two pieces, 20 ms apart. Every request must get its reply. Every message in two pieces must also
+get one, except next to `half`. There the server drops the message that has waited longest. A message that pauses for 20 ms may be this one if
 over 128 others arrive meanwhile.
 
 For each crowd the script prints the median, the 99th percentile and the longest wait, each also as a multiple of the first run alone. With

@@ -4,8 +4,8 @@
     bench/run slow_starts [--cards N] [--starts N] [--seconds N]
 
 Each start takes ten additional seconds, as with a large file. The server is killed at regular intervals, in the middle of a card. The feed must
-exit with status 0, all cards must be good, and the accounts must agree. The event lines report the repeated requests: some for each start, and
-none ten times. Exit status: 1 if a check fails."""
+exit with status 0, all cards must be good, and the accounts must agree. The event lines report the repeated requests: some for each start, but
+no request ten times. Exit status: 1 if a check fails."""
 import argparse
 import json
 import pathlib

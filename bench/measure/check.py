@@ -49,7 +49,7 @@ def contents() -> dict[str, bytes]:
         "one object with a long tag": b"\x5F" + b"\x81" * (CONTENT - 3) + b"\1" + b"\0",
         "primitive objects of 3 bytes": filled(tlv("5A", b"\1"), CONTENT),
         "primitive objects of 2 bytes": filled(tlv("5A", b""), CONTENT),
-        "such in a nest eight deep": nested(7, CONTENT),
+        "these, nested eight levels deep": nested(7, CONTENT),
         "constructed objects in two levels": filled(tlv("E1", tlv("E2", tlv("5A", b""))), CONTENT),
         "empty constructed objects": filled(tlv("E1", b""), CONTENT),
         "fillers": bytes(CONTENT),

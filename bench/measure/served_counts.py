@@ -3,8 +3,8 @@
 
     bench/run served_counts [--cards N ..]
 
-Requires valgrind, and takes two minutes. callgrind's counts are nearly the same in each run, whatever else the machine does. The statements
-alone are run by programs/measure_kit.txt, a server that uses the toolchain's crate `sqlite`.
+Requires valgrind, and takes two minutes. callgrind's counts are nearly the same in each run, even on a busy machine. The statements alone are
+run by programs/measure_kit.txt, a server that uses the toolchain's crate `sqlite`.
 
 One machine makes cards of make_batch.py with N cards in a batch. Each card has an opening, ten answers that continue, and a last answer. The
 script counts the second import, and five cards after the first. It prints the median of each kind, because some commits include a checkpoint.

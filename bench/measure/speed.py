@@ -14,9 +14,9 @@ turns in chunks of a thousand requests:
     kit      programs/measure_kit.txt, which executes them with the toolchain's crate `sqlite`.
              No server that uses the crate can be faster
 
-For each server the script prints:
+For each server (`ours` is persod) the script prints:
 
-- the median rate of the chunks, and the ratio of ours to this rate
+- the median rate of the chunks, and the rate of persod divided by it
 - the median and the 99th percentile of all single times, and the processor time of a request
 - the median time of an opening, an answer that continues, a last answer, and an import
 

@@ -250,7 +250,7 @@ def heading(what: str) -> None:
 
 
 def print_times(name: str, times: Times, shown: Callable[[float], float], digits: int) -> None:
-    """Prints the times. The ratios are those of our rate to the rates of measure_kit and same, and then the ratio of processor times to same."""
+    """Prints the times, our rate divided by those of `measure_kit` and `same`, the processor times, and the last ratio by processor time."""
     columns = "".join(f"{shown(seconds):9.{digits}f}" for seconds in times[:3])
     parts = "".join(f"{theirs / times.ours:9.2f}" for theirs in times[1:3])
     spent = "".join(f"{1e3 * seconds:9.2f}" for seconds in times[3:])

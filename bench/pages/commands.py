@@ -3,8 +3,8 @@
 
     bench/run commands [PAGE..]
 
-A block is what is between fences or indented by four spaces. It has commands, each followed by its output if the page shows it. `..` at the end
-of a line represents the rest of the line, and on its own line any number of lines. A comment before a block changes its treatment:
+A block is a text between fences, or one that is indented by four spaces. It has commands, each followed by its output if the page shows it. `..`
+at the end of a line represents the rest of the line, and on its own line any number of lines. A comment before a block changes its treatment:
 
     <!-- not run: WHY -->        nothing of it is run
     <!-- prints -->              the output of the last command of the previous block
@@ -19,8 +19,8 @@ of a line represents the rest of the line, and on its own line any number of lin
 
 A command without shown output must exit with status 0, and its output must not name a refusal. A command that ends with & runs in the
 background, and the script waits until it listens. Port 8807 is replaced by a free port, the day of the page by today, and /srv/persod by the
-folder. The folder has links to the entries at the top of the repository. If a page needs a program that isn't on this machine, the script says
-so and continues. Finally, each link of every page must lead to a file. Exit status: 1 if an output differs or a link is dead."""
+folder. The folder has links to the entries at the top of the repository. If a page needs a program that isn't on this machine, the script
+reports this and continues. Finally, each link of every page must lead to a file. Exit status: 1 if an output differs or a link is dead."""
 import atexit
 import datetime
 import os

@@ -8,7 +8,7 @@ The batch has 12 records. Some are good, one was spoiled and remade, one is runn
 a script or refers to another file, if the browser doesn't show its texts, or if its digest of the close report isn't that of the output of
 `persod report`.
 
-Requires Debian's chromium. As root, it runs without its sandbox."""
+Requires Debian's chromium. As root, the browser runs without its sandbox."""
 import hashlib
 import os
 import pathlib
@@ -39,7 +39,7 @@ def looked(*words: str) -> str:
 
 
 def make_cards(program: str, database: pathlib.Path) -> None:
-    """Makes five cards, the third of which is spoiled. Its record is remade, and a sixth card is running."""
+    """Makes five cards. The third is spoiled, and its record is remade. A sixth card is running."""
     server = Server(program, database, free_port())
     stock(server.port, 20, 12)
     run(program, "feed", "--port", server.port, "--machine", "m1", "--boot", 7, "--batch", "B1", typed="".join(f"{card}\n" for card in CARDS))

@@ -26,8 +26,8 @@ def asked_anew(program: str, database: pathlib.Path, shop: Shop) -> list[bytes]:
 
 
 def check_same(program: str, server: Server, database: pathlib.Path, shop: Shop, folder: pathlib.Path, others: str = "") -> None:
-    """Kills the server, and compares its database file with one that results from the same requests. The kept replies of the client `others` aren't
-    compared, because its requests aren't sent again."""
+    """Kills the server, and compares its database file with that of a new server that gets the same requests. Kept replies of the client `others`
+    aren't compared, because its requests aren't sent again."""
     found = accounts(server.port, shop.batches)
     server.kill()
     whole = folder / "anew.db"

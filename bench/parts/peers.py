@@ -17,7 +17,7 @@ DROP = 0.5
 
 
 class Peer(NamedTuple):
-    """A hostile message, and the expected response; None for any complete response except 503, or none."""
+    """A hostile message, and the expected response; None for any complete response except 503, or no response."""
 
     kind: str
     message: bytes
