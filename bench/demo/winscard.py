@@ -8,7 +8,7 @@ from ctypes import byref, c_char, c_char_p, c_long, c_ubyte, c_ulong, c_void_p, 
 SYSTEM = 2
 UNAWARE, PRESENT = 0x0000, 0x0020
 EXCLUSIVE = 1
-T0, T1 = 1, 2
+PROTOCOL_T0, PROTOCOL_T1 = 1, 2
 UNPOWER = 2
 TIMEOUT, SHARING_VIOLATION = 0x8010000A, 0x8010000B
 # Errors of the card: it is absent, doesn't transact, has another protocol, or is unsupported,
@@ -112,7 +112,7 @@ class Reader:
     def _connect(self):
         link, protocol = c_long(), c_ulong()
         self._call(
-            "SCardConnect", self.context, self.name, EXCLUSIVE, T0 | T1, byref(link),
+            "SCardConnect", self.context, self.name, EXCLUSIVE, PROTOCOL_T0 | PROTOCOL_T1, byref(link),
             byref(protocol),
         )
         self.link, self.protocol = link, protocol.value

@@ -9,13 +9,20 @@ TABLES = ("version", "product", "lot", "batch", "record", "grouping2", "session"
 Found = TypeVar("Found")
 
 
+def is_unfinished(database: pathlib.Path) -> bool:
+    """Returns True if a kill interrupted the creation of the file. The server writes its first byte last, and the SQLite library refuses the file
+    before that."""
+    return database.exists() and database.read_bytes()[:1] == b"\0"
+
+
 def looked(database: pathlib.Path, look: Callable[[sqlite3.Connection], Found]) -> Found:
-    """Returns the result of `look` on a copy. The server holds a lock on the file while it runs."""
+    """Returns the result of `look` on a copy. The server holds a lock on the file while it runs. An unfinished file counts as empty."""
     with tempfile.TemporaryDirectory() as folder:
         copy = pathlib.Path(folder) / "copy.db"
-        for end in ("", "-wal"):
-            if (path := pathlib.Path(f"{database}{end}")).exists():
-                shutil.copyfile(path, f"{copy}{end}")
+        if not is_unfinished(database):
+            for end in ("", "-wal"):
+                if (path := pathlib.Path(f"{database}{end}")).exists():
+                    shutil.copyfile(path, f"{copy}{end}")
         link = sqlite3.connect(copy)
         try:
             return look(link)
