@@ -42,8 +42,8 @@ const LISTENER: usize = 0;
 
 /// The connections to a port of 127.0.0.1, which are served one at a time.
 ///
-/// For a run over this source, the main theorem states that its exchanges are some that these
-/// connections can have had, and what they leave in the store.
+/// The main theorem (`serve_all` of `server`) also holds for these connections, but doesn't name
+/// the exchanges that took place. It only states that the store contains their effects.
 #[derive(Drop)]
 pub struct Loopback<'a, R: Net + Clock + AllocGlobal + Watches> {
     rt: &'a R,
@@ -57,6 +57,8 @@ pub struct Loopback<'a, R: Net + Clock + AllocGlobal + Watches> {
     token: usize,
     /// The time when all connections were last read.
     swept: Instant,
+    /// The maximum wait of the next round.
+    wait: Duration,
     /// The number of connections that will still be served, if it is known.
     turns: Option<u32>,
 }
@@ -85,6 +87,7 @@ impl<'a, R: Net + Clock + AllocGlobal + Watches> Loopback<'a, R> {
             buf: vec![in rt.alloc(); 0; READ_BYTES]?,
             token: LISTENER,
             swept: Instant::now(rt)?,
+            wait: Duration::ZERO,
             turns: None,
         })
     }
@@ -114,8 +117,8 @@ impl<'a, R: Net + Clock + AllocGlobal + Watches> Loopback<'a, R> {
         self.turns = Some(turns);
     }
 
-    // Accepts a connection, and reads its available bytes. Returns `false` if no slot can be freed
-    // for it, because all pending connections are settled.
+    // Accepts a connection, and reads its available bytes. Returns `false` if all slots are used
+    // and a settled connection has to be served first.
     fn accept_one(&mut self) -> io::Result<bool> {
         let Some(room) = self.slots.find_room() else {
             return Ok(false);
@@ -165,12 +168,13 @@ impl<'a, R: Net + Clock + AllocGlobal + Watches> Loopback<'a, R> {
     // the next round may wait. This is 0 if more connections may have arrived, because the system
     // need not report them again.
     fn accept_all(&mut self) -> io::Result<Duration> {
-        let round = Duration::from_millis(ROUND);
         for _ in 0..MOST_PENDING {
             match self.accept_one() {
                 Ok(true) => {}
-                Ok(false) => return Ok(round),
-                Err(error) if error.kind() == ErrorKind::WouldBlock => return Ok(round),
+                Ok(false) => break,
+                Err(error) if error.kind() == ErrorKind::WouldBlock => {
+                    return Ok(Duration::from_millis(ROUND));
+                }
                 Err(error) => return Err(error),
             }
         }
@@ -187,11 +191,13 @@ impl<'a, R: Net + Clock + AllocGlobal + Watches> Loopback<'a, R> {
         true
     }
 
-    // Performs a round: waits for at most `most`, reads the available bytes, discards those of
+    // Performs a round: waits for at most `wait`, reads the available bytes, discards those of
     // drained connections, accepts the connections that arrived, and ends the messages that took
-    // too long. Returns how long the next round may wait.
-    fn go_round(&mut self, most: Duration) -> io::Result<Duration> {
-        self.watch.wait(most)?;
+    // too long. Determines how long the next round may wait, which is 0 after an error.
+    fn go_round(&mut self) -> io::Result<()> {
+        let wait = self.wait;
+        self.wait = Duration::ZERO;
+        self.watch.wait(wait)?;
         let now = Instant::now(self.rt)?;
         let is_all = self.sweeps(now);
         self.slots
@@ -202,7 +208,8 @@ impl<'a, R: Net + Clock + AllocGlobal + Watches> Loopback<'a, R> {
         let next = self.accept_all();
         let now = Instant::now(self.rt)?;
         self.slots.end_late(&mut self.buf, now);
-        next
+        self.wait = next?;
+        Ok(())
     }
 
     // Removes and returns the connection at `at`, which is the first settled one. If its socket
@@ -215,7 +222,6 @@ impl<'a, R: Net + Clock + AllocGlobal + Watches> Loopback<'a, R> {
         ensures waits { R.Watch.waits self.new.watch ≡ R.Watch.waits self.old.watch }
     {
         let pending = self.slots.take(at);
-        self.watch.remove(pending.stream.as_raw_fd());
         let _ = pending.stream.set_nonblocking(false);
         let replies = PeerWriter::new(self.rt, pending.stream);
         (PeerReader::new(pending.arrived), replies)
@@ -228,24 +234,19 @@ impl<'a, R: Net + Clock + AllocGlobal + Watches> Loopback<'a, R> {
         ensures begun { IfOk result (λ ends. ends.1.stream.begun ≡ None) }
     {
         let mut faults = 0;
-        let mut most = Duration::ZERO;
         for _ in 0..u64::MAX {
-            let gone = self.go_round(most);
+            let gone = self.go_round();
             if let Some(at) = self.slots.find_settled() {
                 return Ok(self.take(at));
             }
             match gone {
-                Ok(next) => {
-                    faults = 0;
-                    most = next;
-                }
+                Ok(()) => faults = 0,
                 Err(error) => {
                     faults += 1;
                     if faults >= MOST_TRIES {
                         return Err(fault_of(error));
                     }
                     self.rt.sleep(Duration::from_millis(PAUSE));
-                    most = Duration::ZERO;
                 }
             }
         }
@@ -292,6 +293,8 @@ impl<'a, R: Net + Clock + AllocGlobal + Watches> Loopback<'a, R> {
             return Ok(());
         };
         self.token = self.token.wrapping_add(1).max(1);
+        // The socket may still be watched as a pending connection.
+        self.watch.remove(stream.as_raw_fd());
         self.watch.add(stream.as_raw_fd(), self.token)?;
         self.slots.make(room);
         self.slots.add_drain(Drain::new(stream, self.token, now));

@@ -211,13 +211,18 @@ impl<S: Read + Drop> Slots<S> {
         found
     }
 
-    /// Returns the slot for another connection, or `None` if all pending connections are settled.
+    /// Returns the slot for another connection. Returns `None` if all slots are used and a
+    /// connection is settled, because it will be served next and its slot freed.
     pub(crate) fn find_room(&self) -> Option<Room>
         ensures { IfSome result (IsRoom (vec_len self.now.pending) (vec_len self.now.drains)
+            (list_any (λ p. is_settled p.arrived) self.now.pending.items)
             (position (λ p. is_silent p.arrived) self.now.pending.items)) }
     {
         if self.pending.len() + self.drains.len() < MOST_PENDING {
             return Some(Room::Free);
+        }
+        if self.has_settled() {
+            return None;
         }
         if !self.drains.is_empty() {
             return Some(Room::Drain);
@@ -231,6 +236,7 @@ impl<S: Read + Drop> Slots<S> {
     /// Frees the slot `room`. If a connection has this slot, it is dropped.
     pub(crate) fn make(&mut self, room: Room)
         requires { IsRoom (vec_len self.old.pending) (vec_len self.old.drains)
+            (list_any (λ p. is_settled p.arrived) self.old.pending.items)
             (position (λ p. is_silent p.arrived) self.old.pending.items) room }
         ensures { vec_len self.new.pending + vec_len self.new.drains < 128 }
     {

@@ -102,6 +102,23 @@ fn the_drained_are_dropped_first(rt: HostRuntime) -> Result<(), Fail> {
     )
 }
 
+// A message in two pieces isn't dropped while ended connections use all the other slots. These are
+// served first, and free their slots.
+#[test]
+fn nothing_is_dropped_if_settled_connections_free_slots(rt: HostRuntime) -> Result<(), Fail> {
+    const ENDS: &[(u64, Piece)] = &[(0, Piece::End)];
+    const WAITS: &[(u64, Piece)] = &[
+        (0, Piece::Text(b"GET /1 H")),
+        (300, Piece::Text(b"TTP/1.1\r\n\r\n")),
+    ];
+    const PEERS: &[Peer] = crowd_of![(1, 0, WAITS), (200, 0, ENDS), (1, 300, ONE)];
+    let size = GET.len();
+    let mut wanted = [(0, 0); 202];
+    wanted[200] = (500, size);
+    wanted[201] = (500, size);
+    check(&rt, rt.alloc(), PEERS, &wanted)
+}
+
 // Settled connections aren't dropped. The others wait to be accepted.
 #[test]
 fn the_settled_are_not_dropped(rt: HostRuntime) -> Result<(), Fail> {
