@@ -632,7 +632,7 @@ class Refusals:
         gate.fate = lambda message: "passes"
         mark = self.tool.state()["numbers"]["office"] + BOOT
         self.hall.ask("office", number=mark + 10**6, do="release", upto=mark)
-        self.refused(73, "discard", LOT + 12)
+        self.refused(73, "discard", LOT + 12, tool=tool)
         self.tool.done("discard", LOT + 12)
         expect("the last number", self.tool.state()["numbers"]["office"], mark + BOOT + 2)
         Tool(self.folder / "new", self.hall.port).done("discard", LOT + 13)
