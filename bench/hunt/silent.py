@@ -11,9 +11,10 @@ first alone, then next to each of these crowds, and then alone again:
     half      a flood of connections that send only the first part of a message
     reset     a flood of connections that are reset at once
 
-During each flood, 100 messages are also sent in two pieces, 20 ms apart. Every request must get its reply. Every message in two pieces must also
-get one, except next to `half`. There the server drops the message that has waited longest. A message that pauses for 20 ms may be this one if
-over 128 others arrive meanwhile.
+During each flood, 100 messages are also sent in two pieces, 20 ms apart. Every request and every message in two pieces must get its reply, except
+next to `half`. There all places are taken by incomplete messages, and the server makes room as docs/PROTOCOL.md says: it drops a connection that
+hasn't sent a byte, or otherwise the message that has waited longest. It may therefore drop a client between its connection and its first byte, or
+in its pause of 20 ms. Up to one in twenty requests may be lost next to `half`, and their clients must repeat them.
 
 For each crowd the script prints the median, the 99th percentile and the longest wait, each also as a multiple of the first run alone. With
 --strict it fails if the median is over 1.5 times that of the first run, or the longest wait is over 50 ms. A busy machine may miss both. Exit
@@ -37,6 +38,7 @@ WANTED = b"HTTP/1.1 409 "
 IDLE, DRIPPING = 200, 20
 SPLIT, PAUSE = 100, 0.02
 MOST_MEDIAN, MOST_WAIT = 1.5, 0.05
+MOST_LOST = 0.05
 OPEN = 500
 STRANGER = "127.0.0.2"
 # IP_BIND_ADDRESS_NO_PORT of Linux
@@ -188,7 +190,7 @@ def run(program: str, folder: pathlib.Path, requests: int, seconds: float, is_st
         waits, replied, rate = next_to(name, server.port, requests, seconds)
         ends = f"{rate:.0f} connections per second; {waits.lost} lost; {replied} of {SPLIT} in two pieces"
         print(f"{line(name, waits, alone)}; {ends}", flush=True)
-        if waits.lost:
+        if waits.lost > (MOST_LOST * requests if name == "half" else 0):
             wrong.append(f"{name}: {waits.lost} requests got no reply")
         if replied < SPLIT and name != "half":
             wrong.append(f"{name}: {SPLIT - replied} messages in two pieces got no reply")
@@ -212,7 +214,7 @@ def main() -> None:
         wrong = run(given.program, pathlib.Path(folder), given.requests, given.seconds, given.strict)
     if wrong:
         sys.exit("\n".join(wrong))
-    print("every request of an honest client got its reply")
+    print("every request of an honest client got its reply, except next to incomplete messages")
 
 
 if __name__ == "__main__":
