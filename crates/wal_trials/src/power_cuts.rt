@@ -24,7 +24,8 @@ fn check_next_run(rt: &impl Abort, alloc: Global, ended: &Ended, seed: u64) -> R
     Ok(())
 }
 
-// Checks runs in which the WAL, or otherwise the database file, stops at each of its calls.
+// Stops the WAL, or otherwise the database file, at a different call in each run, and checks every
+// run.
 fn check_stops(rt: &impl Abort, alloc: Global, is_log: bool) -> Result<(), Fail> {
     for calls in 0..MANY_CALLS {
         let mut faults = NO_FAULTS;
