@@ -3,12 +3,12 @@
 
     bench/run check
 
-Requires Linux. The script runs the program of crates/measure.
+Requires Linux. The script runs programs/measure_lists.txt.
 
-The speed is the number of bytes divided by the time of `measure records` minus the time of `measure raw`, which only reads the same input. Each
+The speed is the number of bytes divided by the time of `measure_lists records` minus the time of `measure_lists raw`, which only reads the same input. Each
 time is the best of several runs, and a difference below 1 ms counts as 1 ms.
 
-The memory is that of `measure batch` minus that of `measure raw` on the same batch, for each row:
+The memory is that of `measure_lists batch` minus that of `measure_lists raw` on the same batch, for each row:
 
 - resident: the median of the peak resident size over several runs, including the stack and the pages of the program, in pages of 4 KiB
 - less one row: the same minus the value of a batch with one row
@@ -26,7 +26,7 @@ from make_batch import tlv
 from plan import Batch, cards, many_records, one_application, one_row, own_applications
 from process import PIPE, best_time, peak
 
-MEASURE = sys.argv[1]
+LISTS = sys.argv[1]
 RUNS = 10
 PEAK_RUNS = 25
 RECORD = 16_000
@@ -58,12 +58,12 @@ def contents() -> dict[str, bytes]:
 
 def output_of(work: str, path: pathlib.Path) -> str:
     with path.open("rb") as source:
-        return subprocess.run([MEASURE, work], stdin=source, capture_output=True, check=True, text=True).stdout.strip()
+        return subprocess.run([LISTS, work], stdin=source, capture_output=True, check=True, text=True).stdout.strip()
 
 
 def expect(work: str, path: pathlib.Path, wanted: str) -> None:
     if (found := output_of(work, path)) != wanted:
-        sys.exit(f"measure {work}: {found}, expected {wanted}")
+        sys.exit(f"measure_lists {work}: {found}, expected {wanted}")
 
 
 def speed(content: bytes, path: pathlib.Path) -> float:
@@ -73,7 +73,7 @@ def speed(content: bytes, path: pathlib.Path) -> float:
         sys.exit(f"a record of {len(record)} bytes")
     path.write_bytes(record * RECORDS)
     expect("records", path, str(RECORDS))
-    raw, records = (best_time([MEASURE, work], path, RUNS) for work in ("raw", "records"))
+    raw, records = (best_time([LISTS, work], path, RUNS) for work in ("raw", "records"))
     return RECORD * RECORDS / max(records - raw, 0.001) / 1e6
 
 
@@ -83,14 +83,14 @@ def rows_of(made: Batch) -> int:
 
 def resident(path: pathlib.Path) -> int:
     """Returns the resident size. Each program blocks when it writes its line, because its pipe is full from the start."""
-    raw, batch = (statistics.median_low(peak([MEASURE, work], path, PIPE, 0) for _ in range(PEAK_RUNS)) for work in ("raw", "batch"))
+    raw, batch = (statistics.median_low(peak([LISTS, work], path, PIPE, 0) for _ in range(PEAK_RUNS)) for work in ("raw", "batch"))
     return batch - raw
 
 
 def most_allocated(work: str, path: pathlib.Path) -> int | None:
     counted = {**os.environ, "LD_PRELOAD": "libmemusage.so", "MEMUSAGE_NO_TIMER": "1"}
     with path.open("rb") as source:
-        printed = subprocess.run([MEASURE, work], stdin=source, capture_output=True, check=True, env=counted).stderr
+        printed = subprocess.run([LISTS, work], stdin=source, capture_output=True, check=True, env=counted).stderr
     found = re.search(rb"heap peak: (\d+)", printed)
     return int(found[1]) if found else None
 

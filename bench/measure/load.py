@@ -3,12 +3,12 @@
 
     bench/run load
 
-The script runs the program of crates/measure, and takes about ten minutes.
+The script runs programs/measure_lists.txt, and takes about ten minutes.
 
 The load is 10,000 messages, each on its own connection: one product, lots, one batch of 200 cards, and 20 machines that take turns. A machine
 opens a card, reports 9000 for each command, and opens the next card. No message is a repeat, so each is decided and its reply kept.
 
-`measure load` serves the messages that it reads. It has no clock. The time of the first and of the last thousand arrivals is therefore the
+`measure_lists load` serves the messages that it reads. It has no clock. The time of the first and of the last thousand arrivals is therefore the
 difference of two runs, with and without them. Most of the time is spent by the store of lists, which reads its batch again for each arrival.
 
 The time to read a message and write its response is measured with messages that never reach the store: a GET whose target has no route, and a
@@ -23,7 +23,7 @@ import time
 
 from served import post
 
-MEASURE = sys.argv[1]
+LISTS = sys.argv[1]
 RUNS = 10
 MACHINES = 20
 CARDS = 200
@@ -81,10 +81,10 @@ def time_of(messages: list[bytes], accepted: int, path: pathlib.Path, runs: int)
     for _ in range(runs):
         with path.open("rb") as source:
             start = time.perf_counter()
-            printed = subprocess.run([MEASURE, "load"], stdin=source, capture_output=True, check=True, text=True).stdout.strip()
+            printed = subprocess.run([LISTS, "load"], stdin=source, capture_output=True, check=True, text=True).stdout.strip()
             best = min(best, time.perf_counter() - start)
         if printed != f"served {len(messages)} accepted {accepted}":
-            sys.exit(f"measure load: {printed}, expected {len(messages)} accepted {accepted}")
+            sys.exit(f"measure_lists load: {printed}, expected {len(messages)} accepted {accepted}")
     return best
 
 
