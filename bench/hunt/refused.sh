@@ -13,8 +13,8 @@
 # The script lists the children that fail, are killed or take over 60 seconds. Exit status: 1 if there is one, or if no allocation failed.
 #
 # These tests are left out, because they fail if an allocation fails: those of a stop at each call, of damaged tables, of earlier versions that
-# are served, of a file next to its WAL, of a damaged WAL, of power failures, of a file behind a socket, of a file system that reports failed
-# allocations itself, and the other tests of `socket_trials`.
+# are served, of a damaged WAL, of power failures, of a file system that reports failed allocations itself, and the other tests of
+# `socket_trials`.
 set -euo pipefail
 cd "$(dirname "$0")/../.."
 folder=$(mktemp -d)
@@ -55,7 +55,7 @@ run_alone() {
 export -f run_alone
 export folder program
 
-left_out='::(a_stop_at_each_call_|files_)|^(damaged|carried|served|places|wals|flipped|power_cuts|drains|limits|lost|peers|ports)::'
+left_out='::(a_stop_at_each_call_|files_)|^(damaged|carried|places|flipped|power_cuts|drains|limits|lost|peers|ports)::'
 tests=0 total=0 failed=0
 for program in "$1" "$2" "$3"; do
     for test in $("$program" --list | sed -n 's/: test$//p' | grep -vE "$left_out" | grep -F -- "${4:-}"); do

@@ -5,17 +5,13 @@ use crate::refused::tables;
 use crate::stops::adopted;
 use crate::stories::{MADE_AGAIN, SET_UP};
 use crate::versions::{all_rows, send_all};
-use book_answers::print_answer;
-use book_arguments::{Ask, BookWords};
 use book_file::read_book;
 use over_tables::{FileFault, Wanted, store_over};
 use schema::SqlStore;
 use sqlite::{Alter, Connection};
 use std::alloc::{AllocError, Global};
-use std::io;
 use std::process::Abort;
 use std::test::Fail;
-use subcommands::End;
 
 // The name of a difference, the statements that produce it, and the reason why the database is then
 // refused: the number of the refusal, its cause, and the name of the table, index or view that
@@ -267,30 +263,21 @@ fn text_of(alloc: Global, fault: &FileFault) -> Result<Vec<u8>, AllocError> {
 }
 
 // Returns the reason why `shopbook` refuses a database or finds it damaged, in the form of
-// `text_of`. The result is empty if `shopbook check` finds no damage.
+// `text_of`. The result is empty if there is no damage.
 fn book_text<S: Alter>(alloc: Global, conn: &mut Connection<S>) -> Result<Vec<u8>, Fail> {
     if !conn.is_autocommit() {
         return Err(Fail::new("a transaction is open"));
     }
-    let book = match read_book(alloc, conn) {
-        Ok(book) => book,
-        Err(fault) => return Ok(text_of(alloc, &fault)?),
+    let fault = match read_book(alloc, conn) {
+        Ok(book) => match book.failing {
+            Some(rule) => FileFault::Damaged {
+                cause: file_causes::Damage::Broken { rule },
+            },
+            None => return Ok(Vec::new(alloc)),
+        },
+        Err(fault) => fault,
     };
-    let words = BookWords {
-        ask: Ask::Check,
-        db: String::new(alloc),
-        json: false,
-    };
-    match (
-        print_answer(alloc, &words, &book, &mut io::sink()),
-        book.failing,
-    ) {
-        (End::Damaged, Some(rule)) => {
-            let cause = file_causes::Damage::Broken { rule };
-            Ok(text_of(alloc, &FileFault::Damaged { cause })?)
-        }
-        _ => Ok(Vec::new(alloc)),
-    }
+    Ok(text_of(alloc, &fault)?)
 }
 
 // Checks that a database with this damage is refused, and that its rows and its schema don't

@@ -1,6 +1,5 @@
-//! Tests of stores and of `persod` that no example file can express: devices that fail, are full or
-//! lose data without an error, failed allocations, crashes, damaged files, earlier schema versions,
-//! and sockets.
+//! Tests of stores that no example file can express: devices that fail, are full or lose data
+//! without an error, failed allocations, crashes, damaged files, and earlier schema versions.
 #![tactic(auto)]
 
 // Helpers of the tests.
@@ -19,10 +18,7 @@ mod faults;
 #[cfg(test)]
 mod refused;
 
-// Stores over files, and the rows that `shopbook` reads from them: crashes, earlier schema
-// versions, and refused files.
-#[cfg(test)]
-mod books;
+// Stores over files: crashes, earlier schema versions, and refused files.
 #[cfg(test)]
 mod carried;
 #[cfg(test)]
@@ -35,15 +31,3 @@ mod places;
 mod stops;
 #[cfg(test)]
 mod versions;
-#[cfg(test)]
-mod wals;
-
-// `persod`, and its server over a socket.
-#[cfg(test)]
-mod ends;
-#[cfg(test)]
-mod joins;
-#[cfg(test)]
-mod programs;
-#[cfg(test)]
-mod served;
