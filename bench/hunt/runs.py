@@ -3,7 +3,7 @@
 
     bench/run runs
 
-`./test` runs this script with the programs that it has just proved and built. It takes a few seconds. The parts are: runs on the standard
+`./test` runs this script with the programs that it has just proved and built. It takes a few seconds. The parts are: arguments, runs on the standard
 streams, outputs that can't be written, files that are refused, a machine with a simulated server, a server over a socket whose files are then
 reported and read, a killed server, and files of each schema version. Exit status: 1 if a check fails."""
 import os
@@ -31,6 +31,10 @@ LONG_PLAN = """record R1
 80E207001080001000112233445566778899AABBCC
 80E2870103DDEEFF
 """
+DEFAULT_PLAN = """record R1
+00A4040006F00000000101
+80E280001380001000112233445566778899AABBCCDDEEFF
+"""
 WRONG = """error: invalid value '15' for '--max <N>': 15 is not in 16..=255
 
 For more information, try '--help'.
@@ -53,13 +57,56 @@ RUNS = [
     Run("plan", "", 1, errors="refused 31 row 1\n"),
     Run("plan --max 16", LARGE, 1, errors="refused 23 row 2\n"),
     Run("plan --max 15", "", 2, errors=WRONG),
+    Run("plan --max 255 --low 0", LONG, 0, DEFAULT_PLAN),
+    Run("plan --max 0255 --low=0", LONG, 0, DEFAULT_PLAN),
+    Run("plan --max +255", LONG, 0, DEFAULT_PLAN),
+    Run("plan --check --low 7", LONG, 0, DEFAULT_PLAN.replace("80E280", "80E287")),
+    Run("plan", LONG, 0, DEFAULT_PLAN),
     Run("drill", 'office 1 {"do":"reset"}\n', 0, '200 {"result":"reset","session":0}\n'),
     Run("drill", "office\n", 1, errors="bad line 1\n"),
     Run("drill", "get /batch/B1\noffice\n", 1, '409 {"code":56,"refused":"batch-unknown"}\n', "bad line 2\n"),
     Run("--version", "", 0, "persod 1.0.0\n"),
+    Run("-V", "", 0, "persod 1.0.0\n"),
+    Run("--version plan", "", 0, "persod 1.0.0\n"),
     Run("report --db none.db --batch B.1", "", 2, errors="bad name\n"),
+    Run("feed --port 1 --machine m.1 --boot 1 --batch B1", "", 2, errors="bad name\n"),
+    Run("feed --port 1 --machine m1 --boot 1 --batch B.1", "", 2, errors="bad name\n"),
+    Run("feed --port 1 --machine m1 --boot 1 --batch=", "", 2, errors="bad name\n"),
     Run("report --db none.db --batch B1", "", 1, errors="refused 81\n"),
 ]
+
+
+# Wrong arguments, and a part of the error text.
+WRONG_WORDS = {
+    "plan --max 15": "'15'", "plan --max 256": "'256'", "plan --max x": "'x'", "plan --max": "--max", "plan --low 32": "'32'",
+    "plan --low -1": "'-1'", "plan --max 16 --max 16": "--max", "plan --check --check": "--check", "plan --check=true": "--check",
+    "plan --check true": "true", "plan --size 16": "--size", "plan batch.csv": "batch.csv", "plan --version": "--version",
+    "drill x": "'x'", "drill --max 3": "--max", "drill --check": "--check", "drill plan": "plan", "--max 16 drill": "--max",
+    "print": "print", "": "subcommand",
+    "serve --port 1 --turns 1": "--db", "serve --db a --turns 1": "--port", "serve --db a --port 1": "--turns",
+    "serve --db a --port 0 --turns 1": "'0'", "serve --db a --port 1 --turns 1000001": "'1000001'", "report --db a": "--batch",
+    "feed --machine m1 --boot 1 --batch B1": "--port", "feed --port 1 --boot 1 --batch B1": "--machine",
+    "feed --port 1 --machine m1 --batch B1": "--boot", "feed --port 1 --machine m1 --boot 1": "--batch",
+    "feed --port 0 --machine m1 --boot 1 --batch B1": "'0'", "feed --port 65536 --machine m1 --boot 1 --batch B1": "'65536'",
+    "feed --port 1 --machine m1 --boot 0 --batch B1": "'0'", "feed --port 1 --machine m1 --boot 10000000000 --batch B1": "'10000000000'",
+}
+STATUSES = "Exit statuses: 0 done; 1 refused; 2 wrong arguments; 3 storage, device or memory\n"
+# Requests for help, and parts of its text.
+HELP = {
+    "--help": ["plan", "drill", "serve", "report", "feed", STATUSES], "help": ["plan", "drill", "--help", STATUSES],
+    "drill --help": ["persod drill", STATUSES], "help drill": ["persod drill", STATUSES], "serve --help": [STATUSES],
+    "plan --help": ["--max <N>", "16 to 255", "[default: 255]", "--check", "refused N row R", "docs/PROFILE.md", STATUSES],
+    "plan -h": ["--low <N>", "0 to 31", "[default: 0]", STATUSES], "report --help": [STATUSES], "feed --help": [STATUSES], "feed -h": [STATUSES],
+}
+
+
+def words() -> None:
+    for line, part in WRONG_WORDS.items():
+        ran = subprocess.run([PERSOD, *line.split()], stdin=subprocess.DEVNULL, capture_output=True, text=True)
+        expect(f"persod {line}", (ran.returncode, ran.stdout, ran.stderr.startswith("error: ") or line == "", part in ran.stderr), (2, "", True, True))
+    for line, parts in HELP.items():
+        ran = subprocess.run([PERSOD, *line.split()], stdin=subprocess.DEVNULL, capture_output=True, text=True)
+        expect(f"persod {line}", (ran.returncode, [part for part in parts if part not in ran.stdout + "\n"], ran.stderr), (0, [], ""))
 
 
 def streams(folder: pathlib.Path) -> None:
@@ -287,6 +334,7 @@ def books(folder: pathlib.Path) -> None:
 
 def main() -> None:
     parts = [streams, causes, served, levels, killed, books]
+    words()
     outputs()
     feeds()
     for part in parts:
@@ -295,7 +343,7 @@ def main() -> None:
             part(folder)
         finally:
             shutil.rmtree(folder)
-    print(f"{len(RUNS)} runs, {len(parts) + 2} parts, 0 faults")
+    print(f"{len(RUNS)} runs, {len(parts) + 3} parts, 0 faults")
 
 
 if __name__ == "__main__":

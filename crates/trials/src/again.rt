@@ -1,7 +1,6 @@
 //! Repeats calls that run out of memory. A test therefore has the same result if any single
 //! allocation fails, even one of its set-up. `bench/run refused` makes each allocation fail in
 //! turn.
-use arguments::WordsFault;
 use batch_import::ImportFault;
 use dgi::DgiFault;
 use drill::DrillStop;
@@ -82,12 +81,6 @@ impl MayBeOutOfMemory for FeedStop {
 impl MayBeOutOfMemory for PlanStop {
     fn is_memory(&self) -> bool {
         *self == PlanStop::Memory
-    }
-}
-
-impl MayBeOutOfMemory for WordsFault {
-    fn is_memory(&self) -> bool {
-        matches!(self, WordsFault::Memory)
     }
 }
 

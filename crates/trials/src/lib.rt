@@ -1,5 +1,5 @@
-//! Tests that no example file can express: readers and writers that fail, failed allocations, event
-//! lines, and the arguments of the program.
+//! Tests that no example file can express: readers and writers that fail, failed allocations, and
+//! event lines.
 #![tactic(auto)]
 
 #[cfg(test)]
@@ -24,7 +24,5 @@ mod readers;
 mod servers;
 #[cfg(test)]
 mod serving;
-#[cfg(test)]
-mod words;
 #[cfg(test)]
 mod writers;

@@ -6,4 +6,3 @@ mod batches;
 mod exchanges;
 mod messages;
 mod serving;
-mod words;
