@@ -24,6 +24,7 @@ from sound_files import OURS, Shape, make
 PERSOD, SHOPBOOK = sys.argv[1:3]
 HEADER = "record,aid,rank,enc,tol,dgi\n"
 LONG = HEADER + "R1,F00000000101,1,0,0,80001000112233445566778899AABBCCDDEEFF\n"
+RESET = 'office 1 {"do":"reset"}\n'
 UNCHECKED = HEADER + "R1,F00000000101,1,0,0,0101021122\n"
 LARGE = HEADER + "R1,F00000000101,1,0,0,0101FF0FFC" + "00" * 4_092 + "\n"
 LONG_PLAN = """record R1
@@ -62,7 +63,7 @@ RUNS = [
     Run("plan --max +255", LONG, 0, DEFAULT_PLAN),
     Run("plan --check --low 7", LONG, 0, DEFAULT_PLAN.replace("80E280", "80E287")),
     Run("plan", LONG, 0, DEFAULT_PLAN),
-    Run("drill", 'office 1 {"do":"reset"}\n', 0, '200 {"result":"reset","session":0}\n'),
+    Run("drill", RESET, 0, '200 {"result":"reset","session":0}\n'),
     Run("drill", "office\n", 1, errors="bad line 1\n"),
     Run("drill", "get /batch/B1\noffice\n", 1, '409 {"code":56,"refused":"batch-unknown"}\n', "bad line 2\n"),
     Run("--version", "", 0, "persod 1.0.0\n"),
@@ -120,7 +121,7 @@ def outputs() -> None:
     """Tries a device that is full, and a pipe whose reader is gone."""
     ours, theirs = os.pipe()
     os.close(ours)
-    for words, typed in (("plan", LONG), ("--version", ""), ("plan --help", ""), ("drill", RUNS[5].typed)):
+    for words, typed in (("plan", LONG), ("--version", ""), ("plan --help", ""), ("drill", RESET)):
         for output in (os.open("/dev/full", os.O_WRONLY), os.dup(theirs)):
             ran = subprocess.run([PERSOD, *words.split()], input=typed, stdout=output, stderr=subprocess.PIPE, text=True)
             expect(f"persod {words} to a full device or a closed pipe", (ran.returncode, ran.stderr), (3, "device\n"))
@@ -277,7 +278,6 @@ def served(folder: pathlib.Path) -> None:
         lines = events.read_text().splitlines()
         expect("the first event line", sorted(lines[0].split()), sorted([word, *keys, f'db="{database}"']))
         expect("the other event lines", lines[1:], EVENTS)
-        expect("the WAL", database.with_name("shop.db-wal").exists(), False)
         expect("the mode of the file", database.stat().st_mode & 0o777, 0o600)
         expect("the report", run(PERSOD, "report", "--db", database, "--batch", "B1"), Ran(0, REPORT.splitlines(), []))
 
@@ -292,8 +292,7 @@ def levels(folder: pathlib.Path) -> None:
     with socket.create_server(("127.0.0.1", 0)) as listener:
         port = listener.getsockname()[1]
         ran = run(PERSOD, "serve", "--db", folder / "unused.db", "--port", port, "--turns", 1)
-    expect("a server without a port", (ran.status, ran.printed), (3, []))
-    expect("its last event lines", ran.errors[-3:-1], [f"unstarted cause=port-in-use port={port}", "closed connections=0"])
+    expect("a server without a port", ran, Ran(3, [], [f"unstarted cause=port-in-use port={port}", "device"]))
 
 
 def killed(folder: pathlib.Path) -> None:
