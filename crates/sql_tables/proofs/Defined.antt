@@ -9,7 +9,7 @@ use Rattle.sqlite_tied.specs.Compute.{everything}
 use Rattle.sql_base.specs.Columns.{no_schema}
 use Rattle.sql_tables.specs.Each.{Each}
 use Rattle.sql_tables.specs.Opening.{IsEmptyAt, Makes, MakesVersion}
-use Rattle.sql_tables.specs.Tables.{batch_named_at, batch_table, batch_told_at, grouping_place_at, grouping_table, mark_at, our_schema, session_running_at, session_stands_at, session_table}
+use Rattle.sql_tables.specs.Tables.{batch_named_at, batch_table, batch_told_at, grouping_place_at, grouping_table, lot_serial_at, lot_table, mark_at, our_schema, session_running_at, session_stands_at, session_table}
 use Rattle.sql_tables.specs.Texts.{earlier_texts, mark_text, our_index_texts, our_table_texts, texts_of, version_one_text, version_two_text}
 use Rattle.sql_tables.specs.Versions.{earlier_tables, numbered_version_at, tables_in}
 use Rattle.sql_tables.specs.declared.versions.Version.{Version}
@@ -57,6 +57,7 @@ our_indices =
     ∷ record { at = 6; table = session_table; index = session_stands_at 0 }
     ∷ record { at = 3; table = batch_table; index = batch_told_at 0 }
     ∷ record { at = 3; table = batch_table; index = batch_named_at 0 }
+    ∷ record { at = 2; table = lot_table; index = lot_serial_at 0 }
     ∷ []
 
 abbrev with_tables : Schema
@@ -86,7 +87,7 @@ tables_defined = (
 
 indices_defined : AreIndexed with_tables our_index_texts our_indices
 unfolding understood everything
-indices_defined = (((refl, refl), refl), (((refl, refl), refl), (((refl, refl), refl), (((refl, refl), refl), (((refl, refl), refl), tt)))))
+indices_defined = (((refl, refl), refl), (((refl, refl), refl), (((refl, refl), refl), (((refl, refl), refl), (((refl, refl), refl), (((refl, refl), refl), tt))))))
 
 all_made : fold with_index with_tables our_indices ≡ our_schema
 all_made = refl

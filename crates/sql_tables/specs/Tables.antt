@@ -185,8 +185,8 @@ abbrev pub mark_table : Table
 mark_table = mark_at 21
 
 -- The indexes only speed up reads: the running session of a machine, the rows of a record with
--- `enc` and `tol`, the states of the sessions of a batch, and the columns of a batch without its
--- bytes.
+-- `enc` and `tol`, the states of the sessions of a batch, the columns of a batch without its bytes,
+-- and the lot that contains a serial.
 abbrev pub session_running_at : ℕ → Index
 session_running_at tree = record { name = codes "session_running"; tree = tree; table = 12; columns = 2 ∷ 6 ∷ []; order = plain; is_unique = false }
 
@@ -201,6 +201,9 @@ batch_told_at tree = record { name = codes "batch_told"; tree = tree; table = 5;
 
 abbrev pub batch_named_at : ℕ → Index
 batch_named_at tree = record { name = codes "batch_named"; tree = tree; table = 5; columns = 0 ∷ 2 ∷ []; order = plain; is_unique = false }
+
+abbrev pub lot_serial_at : ℕ → Index
+lot_serial_at tree = record { name = codes "lot_serial"; tree = tree; table = 3; columns = 3 ∷ []; order = plain; is_unique = false }
 
 abbrev pub our_schema : Schema
 our_schema = record {
@@ -217,6 +220,6 @@ our_schema = record {
       ∷ automatic remake_table 0 (1 ∷ 2 ∷ 3 ∷ []) 18
       ∷ automatic reply_table 0 (1 ∷ 2 ∷ []) 20
       ∷ automatic mark_table 0 (1 ∷ []) 22
-      ∷ session_running_at 23 ∷ grouping_place_at 24 ∷ session_stands_at 25 ∷ batch_told_at 26 ∷ batch_named_at 27 ∷ [];
+      ∷ session_running_at 23 ∷ grouping_place_at 24 ∷ session_stands_at 25 ∷ batch_told_at 26 ∷ batch_named_at 27 ∷ lot_serial_at 28 ∷ [];
   views = [];
 }

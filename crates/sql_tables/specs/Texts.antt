@@ -64,6 +64,9 @@ batch_told_text = codes "CREATE INDEX batch_told ON batch (name, product, closed
 abbrev pub batch_named_text : List ℕ
 batch_named_text = codes "CREATE INDEX batch_named ON batch (id, name)"
 
+abbrev pub lot_serial_text : List ℕ
+lot_serial_text = codes "CREATE INDEX lot_serial ON lot (low_serial)"
+
 abbrev pub add_version_text : List ℕ
 add_version_text = codes "INSERT INTO version (id, number) VALUES (1, 3)"
 
@@ -75,7 +78,7 @@ abbrev pub our_table_texts : List (List ℕ)
 our_table_texts = version_text ∷ product_text ∷ lot_text ∷ batch_text ∷ record_text ∷ grouping_text ∷ session_text ∷ word_text ∷ blank_text ∷ remake_text ∷ reply_text ∷ mark_text ∷ []
 
 abbrev pub our_index_texts : List (List ℕ)
-our_index_texts = session_running_text ∷ grouping_place_text ∷ session_stands_text ∷ batch_told_text ∷ batch_named_text ∷ []
+our_index_texts = session_running_text ∷ grouping_place_text ∷ session_stands_text ∷ batch_told_text ∷ batch_named_text ∷ lot_serial_text ∷ []
 
 -- all texts that create a version; each table follows the tables that it refers to
 abbrev pub texts_of : Version → List (List ℕ)

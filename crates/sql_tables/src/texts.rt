@@ -99,6 +99,9 @@ const BATCH_TOLD: &str = "CREATE INDEX batch_told ON batch (name, product, close
 
 const BATCH_NAMED: &str = "CREATE INDEX batch_named ON batch (id, name)";
 
+// The index finds the last lot that starts at or before a serial.
+const LOT_SERIAL: &str = "CREATE INDEX lot_serial ON lot (low_serial)";
+
 // The tables that are the same in versions 1 and 2.
 const EARLIER: &[&str] = &[
     PRODUCT,
@@ -123,6 +126,7 @@ const OUR_INDICES: &[&str] = &[
     SESSION_STANDS,
     BATCH_TOLD,
     BATCH_NAMED,
+    LOT_SERIAL,
 ];
 
 // Returns the texts that create the tables of `version`, each after the tables that it refers to,
