@@ -8,6 +8,7 @@ pub mod Answering
 pub mod NameMeanings
 pub mod NameAnswers
 pub mod BatchAnswers
+pub mod LastLot
 pub mod LotAnswers
 pub mod CardMeanings
 pub mod CardAnswers

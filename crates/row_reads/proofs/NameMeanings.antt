@@ -5,7 +5,7 @@ use Rattle.sqlite.specs.Term.{col}
 use Rattle.sqlite_tied.specs.Compute.{everything}
 use Rattle.row_reads.specs.Texts.{by_first_column}
 use Rattle.row_reads.specs.CardTexts.{limit_one}
-use Rattle.row_reads.specs.NameTexts.{last_batch_text, batches_of_text, by_batch_product, charged_text, first_column, lot_names_text, products_text, lot_columns, lot_row_columns, lot_text, lots_of_text, lots_text, by_second_column, batch_has_text, batch_head_text, batch_by_name_text, id_columns, batch_id_text, batch_name_columns, batch_name_text, by_batch_name, by_bytes, by_id, by_id_in_order, by_two_columns, head_columns, kept_columns, kept_text, batch_at_columns}
+use Rattle.row_reads.specs.NameTexts.{by_low_serial, last_lot_text, more_lot_columns, last_batch_text, batches_of_text, by_batch_product, charged_text, first_column, lot_names_text, products_text, lot_columns, lot_row_columns, lot_text, lots_of_text, lots_text, by_second_column, batch_has_text, batch_head_text, batch_by_name_text, id_columns, batch_id_text, batch_name_columns, batch_name_text, by_batch_name, by_bytes, by_id, by_id_in_order, by_two_columns, head_columns, kept_columns, kept_text, batch_at_columns}
 use Rattle.row_reads.proofs.Asking.{Asks}
 use Rattle.row_reads.proofs.Sorting.{AsksSorted}
 
@@ -39,15 +39,19 @@ batch_has_asks = record { names = codes "id" ∷ []; is = refl; plain = (refl, r
 
 pub lot_asks : Asks lot_text 3 by_first_column lot_row_columns
 unfolding understood everything
-lot_asks = record { names = codes "name" ∷ codes "product" ∷ codes "low_serial" ∷ codes "amount" ∷ codes "discarded" ∷ []; is = refl; plain = (refl, refl); unlisted = refl }
+lot_asks = record { names = codes "low_serial" ∷ codes "amount" ∷ codes "name" ∷ codes "product" ∷ codes "discarded" ∷ []; is = refl; plain = (refl, refl); unlisted = refl }
 
 pub lots_asks : Asks lots_text 3 [] lot_columns
 unfolding understood everything
-lots_asks = record { names = codes "name" ∷ codes "product" ∷ codes "low_serial" ∷ codes "amount" ∷ []; is = refl; plain = (refl, refl); unlisted = refl }
+lots_asks = record { names = codes "low_serial" ∷ codes "amount" ∷ codes "name" ∷ codes "product" ∷ []; is = refl; plain = (refl, refl); unlisted = refl }
 
 pub lots_of_asks : Asks lots_of_text 3 by_second_column lot_row_columns
 unfolding understood everything
-lots_of_asks = record { names = codes "name" ∷ codes "product" ∷ codes "low_serial" ∷ codes "amount" ∷ codes "discarded" ∷ []; is = refl; plain = (refl, refl); unlisted = refl }
+lots_of_asks = record { names = codes "low_serial" ∷ codes "amount" ∷ codes "name" ∷ codes "product" ∷ codes "discarded" ∷ []; is = refl; plain = (refl, refl); unlisted = refl }
+
+pub last_lot_asks : AsksSorted true limit_one last_lot_text 3 by_low_serial (col 1 3) more_lot_columns
+unfolding understood everything
+last_lot_asks = record { names = codes "low_serial" ∷ codes "amount" ∷ codes "name" ∷ codes "product" ∷ []; is = refl; plain = (refl, refl); unlisted = refl }
 
 pub batches_of_asks : Asks batches_of_text 5 by_batch_product head_columns
 unfolding understood everything

@@ -167,7 +167,7 @@ module _ {X Y : Type 0} (key : X → Bool) (view : X → Row) (xs : List X) (all
       (first_of_one decode all found (subst (λ rs. IsFirst (map decode rs) found) is first))
 
 -- in descending order, no row has a higher number than the first row
-falls : (all : List Row) → All IsNumbered all → IsInOrder true all → (j : ℕ) → j < length all → number_in (column (get_or all j []) 0) ≤ number_in (column (get_or all 0 []) 0)
+pub falls : (all : List Row) → All IsNumbered all → IsInOrder true all → (j : ℕ) → j < length all → number_in (column (get_or all j []) 0) ≤ number_in (column (get_or all 0 []) 0)
 falls all numbers sorted zero low = omega arith
 falls all numbers sorted (suc j) low =
     let before = falls all numbers sorted j (omega arith) in

@@ -61,7 +61,7 @@ abbrev pub batch_at_in : Row → BatchAt
 batch_at_in row = record { id = number_in (column row 0); product = text_in (column row 1); is_closed = flag_in (column row 2) }
 
 abbrev pub lot_in : Row → Lot
-lot_in row = record { name = text_in (column row 0); product = text_in (column row 1); first = number_in (column row 2); count = number_in (column row 3) }
+lot_in row = record { name = text_in (column row 2); product = text_in (column row 3); first = number_in (column row 0); count = number_in (column row 1) }
 
 abbrev pub lot_row_in : Row → LotRow
 lot_row_in row = record { lot = lot_in row; discarded = number_in (column row 4) }

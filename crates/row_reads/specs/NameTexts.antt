@@ -68,24 +68,35 @@ by_bytes = is_equal (col 1 2) (col 0 0) ∷ is_equal (col 1 4) (col 0 1) ∷ []
 
 -- ---- lots
 
+-- the columns after the first serial
+abbrev pub more_lot_columns : List Term
+more_lot_columns = col 1 4 ∷ col 1 1 ∷ col 1 2 ∷ []
+
 abbrev pub lot_columns : List Term
-lot_columns = col 1 1 ∷ col 1 2 ∷ col 1 3 ∷ col 1 4 ∷ []
+lot_columns = col 1 3 ∷ more_lot_columns
 
 abbrev pub lot_row_columns : List Term
-lot_row_columns = col 1 1 ∷ col 1 2 ∷ col 1 3 ∷ col 1 4 ∷ col 1 5 ∷ []
+lot_row_columns = col 1 3 ∷ col 1 4 ∷ col 1 1 ∷ col 1 2 ∷ col 1 5 ∷ []
 
 abbrev pub lot_text : List ℕ
-lot_text = codes "SELECT name, product, low_serial, amount, discarded FROM lot WHERE name = ?1"
+lot_text = codes "SELECT low_serial, amount, name, product, discarded FROM lot WHERE name = ?1"
 
 abbrev pub lots_text : List ℕ
-lots_text = codes "SELECT name, product, low_serial, amount FROM lot"
+lots_text = codes "SELECT low_serial, amount, name, product FROM lot"
 
 abbrev pub lots_of_text : List ℕ
-lots_of_text = codes "SELECT name, product, low_serial, amount, discarded FROM lot WHERE product = ?1"
+lots_of_text = codes "SELECT low_serial, amount, name, product, discarded FROM lot WHERE product = ?1"
 
 -- the condition that the second column is the first parameter
 abbrev pub by_second_column : List Term
 by_second_column = is_equal (col 1 2) (col 0 0) ∷ []
+
+abbrev pub last_lot_text : List ℕ
+last_lot_text = codes "SELECT low_serial, amount, name, product FROM lot WHERE low_serial <= ?1 ORDER BY low_serial DESC LIMIT 1"
+
+-- the condition that the first serial is at most the first parameter
+abbrev pub by_low_serial : List Term
+by_low_serial = op2 (Compare Le Binary) (col 1 3) (col 0 0) ∷ []
 
 -- ---- the batches of a product, charged blanks, and names to count
 

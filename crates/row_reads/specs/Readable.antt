@@ -47,10 +47,10 @@ pub record IsReplyAnswer (row : Row) : Type 0 where
   pub body : IsBlob (column row 2)
 
 pub record IsLotAnswer (row : Row) : Type 0 where
-  pub name : IsNameText (column row 0)
-  pub product : IsNameText (column row 1)
-  pub first : IsWhole (column row 2)
-  pub count : IsBelow (2 ^ 32) (column row 3)
+  pub first : IsWhole (column row 0)
+  pub count : IsBelow (2 ^ 32) (column row 1)
+  pub name : IsNameText (column row 2)
+  pub product : IsNameText (column row 3)
 
 pub record IsLotRowAnswer (row : Row) : Type 0 where
   pub lot : IsLotAnswer row

@@ -2,7 +2,8 @@
 ghost use Rattle.std.specs.Prelude.{◌≡◌, ◌<◌, ◌^◌, false, filter, find, length, map};
 ghost use Rattle.std.specs.Prelude.{option_map, IfOk, IfSome, IsPermutation};
 ghost use Rattle.sqlite.specs.Held.{state};
-ghost use Rattle.job_facts.specs.States.{any_overlaps, is_in, lot_of};
+ghost use Rattle.job_facts.specs.Sound.{AreLots};
+ghost use Rattle.job_facts.specs.States.{any_overlaps, lot_of};
 ghost use Rattle.row_reads.specs.Decoding.{IsAny, lot_in, lot_row_in};
 ghost use Rattle.row_reads.specs.Readable.{IsLotAnswer, IsLotRowAnswer};
 ghost use Rattle.row_reads.specs.Reads.{Looks, ReadsRows};
@@ -13,10 +14,13 @@ ghost use Rattle.table_rows.specs.Tables.{PassesOnce, StoredLot};
 use crate::answered::{Answered, all_of, one_of};
 use crate::values::{count, long_at, name_at, number_at};
 use job_facts::{Lot, any_overlaps, lot_among};
-use sql_base::rows_of;
+use sql_base::{int, rows_of};
 use sqlite::types::ValueRef;
 use sqlite::{Alter, Connection, Error, Row};
 use store_data::Name;
+
+// The highest serial of a blank.
+const MOST_SERIAL: u64 = 999_999_999_999_999_999;
 
 /// A lot with the number of its discarded blanks.
 #[derive(Clone, Copy)]
@@ -38,10 +42,10 @@ impl Answered for Lot {
 
     fn read(row: &Row) -> Result<Lot, Error> {
         Ok(Lot {
-            name: name_at(row, 0)?,
-            product: name_at(row, 1)?,
-            first: number_at(row, 2)?,
-            count: long_at(row, 3)?,
+            first: number_at(row, 0)?,
+            count: long_at(row, 1)?,
+            name: name_at(row, 2)?,
+            product: name_at(row, 3)?,
         })
     }
 }
@@ -72,7 +76,7 @@ pub fn lot<S: Alter>(conn: &mut Connection<S>, name: &Name) -> Result<Option<Lot
     ensures ranged { IfOk result (λ found. IfSome found IsLotRow) }
     ensures looks { Looks (state S.Store conn.old) (state S.Store conn.new) }
 {
-    let sql = "SELECT name, product, low_serial, amount, discarded FROM lot WHERE name = ?1";
+    let sql = "SELECT low_serial, amount, name, product, discarded FROM lot WHERE name = ?1";
     one_of(conn, sql, &[ValueRef::Text(name.bytes())])
 }
 
@@ -83,7 +87,7 @@ pub fn all_lots<S: Alter>(conn: &mut Connection<S>) -> Result<Vec<Lot>, Error>
         (λ t lots. IsPermutation (map (λ (l : StoredLot). l.lot) t.lots) lots.items) }
     ensures looks { Looks (state S.Store conn.old) (state S.Store conn.new) }
 {
-    let sql = "SELECT name, product, low_serial, amount FROM lot";
+    let sql = "SELECT low_serial, amount, name, product FROM lot";
     all_of(conn, sql, &[])
 }
 
@@ -95,19 +99,24 @@ pub fn lots_of<S: Alter>(conn: &mut Connection<S>, product: &Name) -> Result<Vec
         IsPermutation (map lot_row_of (filter (is_lot_for product.now) t.lots)) lots.items) }
     ensures looks { Looks (state S.Store conn.old) (state S.Store conn.new) }
 {
-    let sql = "SELECT name, product, low_serial, amount, discarded FROM lot WHERE product = ?1";
+    let sql = "SELECT low_serial, amount, name, product, discarded FROM lot WHERE product = ?1";
     all_of(conn, sql, &[ValueRef::Text(product.bytes())])
 }
 
 /// Returns the lot that contains the blank `blank`.
+///
+/// Lots share no serial, so only the last lot that starts at or before `blank` can contain it.
+/// SQLite finds this lot with the index on `low_serial`.
 pub fn lot_of<S: Alter>(conn: &mut Connection<S>, blank: u64) -> Result<Option<Lot>, Error>
     requires { conn.old.in_transaction ≡ false }
     ensures found { ReadsRows (state S.Store conn.old) (state S.Store conn.new) result
-        (λ t found. PassesOnce (is_in blank) (map (λ (l : StoredLot). l.lot) t.lots)
+        (λ t found. AreLots t.products (map (λ (l : StoredLot). l.lot) t.lots)
         → found ≡ lot_of (map (λ (l : StoredLot). l.lot) t.lots) blank) }
     ensures looks { Looks (state S.Store conn.old) (state S.Store conn.new) }
 {
-    let lots = all_lots(conn)?;
+    let sql = "SELECT low_serial, amount, name, product FROM lot WHERE low_serial <= ?1 \
+        ORDER BY low_serial DESC LIMIT 1";
+    let lots: Vec<Lot> = all_of(conn, sql, &[int(blank.min(MOST_SERIAL))])?;
     Ok(lot_among(lots.as_slice(), blank).copied())
 }
 
