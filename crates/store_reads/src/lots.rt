@@ -30,7 +30,6 @@ pub fn lot_of<S: Alter>(conn: &mut Connection<S>, blank: u64) -> Result<Option<L
     ensures looks { Looks (state S.Store conn.old) (state S.Store conn.new) }
 {
     row_laws::lots_by_name();
-    row_laws::lots_by_range();
     row_reads::lot_of(conn, blank)
 }
 
