@@ -79,6 +79,7 @@ INDICES = {
     "session_stands": "session (batch, state)",
     "batch_told": "batch (name, product, closed)",
     "batch_named": "batch (id, name)",
+    "lot_serial": "lot (low_serial)",
 }
 
 
