@@ -6,3 +6,5 @@ pub mod ClientLemmas
 pub mod FormLemmas
 pub mod MeantLemmas
 pub mod PostLemmas
+pub mod BodyLemmas
+pub mod MemberLemmas

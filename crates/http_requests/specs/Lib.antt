@@ -6,6 +6,7 @@ pub mod Routes
 pub mod RouterRows
 pub mod Members
 pub mod Requests
+pub mod Bodies
 pub mod Asks
 pub mod Meant
 pub mod Posts

@@ -2,6 +2,7 @@
 #![tactic(auto)]
 
 mod ask;
+mod body;
 mod meaning;
 pub mod members;
 mod post;

@@ -9,7 +9,8 @@ ghost use Rattle.http_requests.specs.Requests.{lot_in, number_within, open_in, p
 ghost use Rattle.http_requests.specs.Requests.{remake_in, request_by_word};
 ghost use Rattle.http_requests.specs.Requests.{serial_at, session_in, withdraw_in, word_in};
 
-use crate::members::{name_at, number_at, text_at, value_in};
+use crate::body::object_in;
+use crate::members::{name_at, number_at, text_at};
 use job_facts::{Call, Lot, Request};
 use serde_json::Value;
 use std::alloc::{AllocError, Global};
@@ -24,12 +25,12 @@ const MOST_SERIAL: u64 = 999_999_999_999_999_999;
 /// # Errors
 ///
 /// Returns `AllocError` if an allocation fails.
-#[tactic(auto, unfolding(crate::specs::Requests::call_in))]
+#[tactic(auto, using(crate::proofs::MemberLemmas::call_of_object))]
 pub(crate) fn call_of(alloc: Global, body: &[u8]) -> Result<Option<Call>, AllocError>
     ensures value { IfOk result (λ r. r ≡ call_in body.now) }
     ensures ranged { IfOk result (λ r. IfSome r IsCall) }
 {
-    match value_in(alloc, body)? {
+    match object_in(alloc, body)? {
         Some(value) => Ok(call_of_value(&value)),
         None => Ok(None),
     }
