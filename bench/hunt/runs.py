@@ -16,7 +16,7 @@ import tempfile
 import threading
 from typing import NamedTuple
 
-from contents import RICH, rows
+from contents import RICH, WORKED, rows
 from events import Ran, expect, run
 from served import Server, environment, exchange, fixed_reply, free_port, get, imported, post, reply_bytes, request
 from sound_files import OURS, Shape, make
@@ -148,10 +148,10 @@ def causes(folder: pathlib.Path) -> None:
     refused("no-file", folder / "none.db")
     refused("no-folder", folder / "none" / "shop.db")
     refused("folder", folder)
-    refused("special", linked)
+    refused("special-file", linked)
     linked.unlink()
     refused("not-sqlite", text)
-    refused("invalid", cut)
+    refused("invalid-database", cut)
     server = Server(PERSOD, sound, free_port())
     refused("in-use", sound)
     server.kill()
@@ -317,11 +317,12 @@ def killed(folder: pathlib.Path) -> None:
 
 def books(folder: pathlib.Path) -> None:
     """Runs each subcommand of `shopbook` for a file of each schema version."""
-    batch, product = sorted(RICH.batches)[0], sorted(RICH.products)[0]
-    asks = ["check", "list", f"cards --batch {batch}", f"blanks --product {product}", "machines", f"sheet --batch {batch}"]
     for version in (1, 2, 3):
+        its = RICH if version == 3 else WORKED
+        batch, product = sorted(its.batches)[0], sorted(its.products)[0]
+        asks = ["check", "list", f"cards --batch {batch}", f"blanks --product {product}", "machines", f"sheet --batch {batch}"]
         database = folder / f"version-{version}.db"
-        make(database, rows(RICH), Shape(version, indices=OURS if version == 3 else ()))
+        make(database, rows(its), Shape(version, indices=OURS if version == 3 else ()))
         before = database.read_bytes()
         for ask in asks:
             word, *others = ask.split()
