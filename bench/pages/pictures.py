@@ -35,7 +35,7 @@ SECTIONS = {
     "Other stores": (892, 280, 188, 92, 1, "lists; a faulty device"),
     "Reference model": (20, 752, 1060, 56, 7, "a request to a reply and a change"),
     "Planning": (20, 838, 1060, 56, 7, "batch file to planned and printed commands"),
-    "Rattle toolchain": (20, 924, 1060, 107, 8, "libraries that the crates use"),
+    "Rattle toolchain": (20, 924, 1060, 121, 8, "libraries that the crates use"),
 }
 # Functions and types: column, row and width in columns, crates, and what their contracts state. Definitions have a file of specs.
 CONTRACTS = {
@@ -71,6 +71,7 @@ CONTRACTS = {
     "after_card, after_reply": (4, 4, 1, "feeder", "Table.antt"),
 }
 BENDS = {
+    ("Tests", "Tables and files"): ((20, 48), (9, 48), (9, 220), (20, 220)),
     ("Server", "Repeated requests"): ((850, 439), (871, 439), (871, 674), (850, 674)),  # drawn although Server leads there through Messages
     ("Feeder", "after_card, after_reply"): ((1110, 159), (1126, 159), (1126, 429), (1110, 429)),
     ("ListStore, FaultyStore", "JobStore"): ((1010, 580), (1010, 564), (566, 564), (566, 548)),
@@ -146,7 +147,7 @@ class Picture:
 
 def architecture() -> Picture:
     crates, edges = sections()
-    picture = Picture("architecture.svg", 1100, 1076, "The sections of crates.txt with their crates, and an arrow to each section that a section uses", edges)
+    picture = Picture("architecture.svg", 1100, 1090, "The sections of crates.txt with their crates, and an arrow to each section that a section uses", edges)
     for section, names in crates.items():
         x, y, width, height, columns, purpose = SECTIONS.get(section) or sys.exit(f"pictures.py has no place for the section {section}")
         picture.box(section, Box(x, y, width, height), fill=OUTSIDE if section == "Rattle toolchain" else WHITE)
@@ -159,7 +160,7 @@ def architecture() -> Picture:
             picture.text(x + 12 + place // rows * space, y + first + place % rows * 17, name, 12, INK, "mono", space)
     for name, other in sorted(reduced(edges) | {*BENDS} & edges):
         picture.arrow(name, other, BLUE, BENDS.get((name, other), ()))
-    picture.text(20, 1058, "An arrow points to a section that is used. If other arrows lead there, it is left out, except from Server to Repeated requests.")
+    picture.text(20, 1072, "An arrow points to a section that is used. If other arrows lead there, it is left out, except from Server to Repeated requests.")
     return picture
 
 
