@@ -1,12 +1,11 @@
 #!/usr/bin/env python3
-"""Measures what the requests of one client cost all others: at the next start, for each opening, in memory, and in `shopbook machines`.
+"""Measures what the requests of one client cost all others: memory for JSON, the time of `shopbook machines`, and starts with a large file.
 
     bench/run costs [--cards N] [--folder FOLDER] [PART ..]
 
-Requires Linux. Each part compares two runs of the same programs, which take turns, and prints the ratio of their medians:
+Requires Linux. The parts `json` and `machines` compare two runs, which take turns, and print the ratio of their medians. `chosen_numbers` and
+`lots` measure other costs in the same way.
 
-- numbers: the processor time of a start with kept replies, if their request numbers collide in a hash table with a fixed seed, and if they don't
-- lots: the processor time of openings and of discards with 4,096 lots, and with one lot
 - json: the memory that a body of 16 MiB takes in addition, if it is nested JSON, and if it is a string
 - machines: the time of `shopbook machines` for 40,000 clients, and for 20,000
 - starts: the processor time and the memory of a start for a large file, whose cards have twelve requests each. Memory is also given as a multiple
@@ -25,19 +24,14 @@ from collections import Counter
 from typing import Callable, NamedTuple
 
 from batch_files import Product
-from colliding import numbers
 from contents import Contents, Lot, Reply, Session, rows
-from served import Server, exchange, free_port, post, request
-from small_shop import accepted, batch_file
+from served import Server, exchange, free_port, post
+from small_shop import batch_file
 from sound_files import OURS, Shape, make
 
 ROUNDS = 3
 MIB = 1 << 20
 MOST_BODY = 16 * MIB
-REPLIES = 40_000
-LOTS = 4_096
-LOT_SIZE = 1_000
-OPENINGS = 500
 CLIENTS = 40_000
 BATCH_CARDS = 1_024
 MACHINES = 50
@@ -60,15 +54,6 @@ def contents(**parts: object) -> Contents:
     """Returns contents with product P1 and the given parts."""
     empty = Contents({"P1": Product(255, 0, 0)}, [], {}, [], [], Counter(), set(), set(), [], {})
     return empty._replace(**parts)
-
-
-def with_replies(found: list[int]) -> Contents:
-    return contents(replies=[Reply("m1", number, *RESET) for number in found])
-
-
-def with_lots(count: int) -> Contents:
-    lots = [Lot(f"L{place}", "P1", place * LOT_SIZE, LOT_SIZE) for place in range(count)]
-    return contents(lots=lots, batches={"B1": ("P1", batch_file(OPENINGS * ROUNDS))})
 
 
 def with_clients(count: int) -> Contents:
@@ -124,17 +109,6 @@ def report(what: str, first: float, second: float, unit: str) -> None:
     print(f"{what}: {first:.2f} and {second:.2f} {unit}, ratio {first / second:.2f}", flush=True)
 
 
-def requests(program: str, database: pathlib.Path, message: Callable[[int], bytes]) -> float:
-    """Returns the processor time of a request in milliseconds."""
-    server = served(program, database)
-    before = server.processor()
-    for place in range(OPENINGS):
-        accepted(server.port, message(place))
-    took = server.processor() - before
-    server.kill()
-    return 1000 * took / OPENINGS
-
-
 def added_memory(program: str, folder: pathlib.Path, body: bytes) -> float:
     """Returns the memory that a server takes for a request in addition, in MiB."""
     server = Server(program, folder / "empty.db", free_port())
@@ -152,22 +126,6 @@ def seconds(words: list[str]) -> float:
 
 
 # ---- parts
-
-
-def numbers_part(programs: Programs, folder: pathlib.Path, _cards: int) -> None:
-    colliding = file_of(folder, "colliding", with_replies(sorted(numbers("m1", REPLIES))))
-    others = file_of(folder, "others", with_replies(list(range(1, REPLIES + 1))))
-    found = medians(lambda: start(programs.persod, colliding).processor, lambda: start(programs.persod, others).processor)
-    report(f"start with {REPLIES} replies, colliding numbers and others", *found, "s")
-
-
-def lots_part(programs: Programs, folder: pathlib.Path, _cards: int) -> None:
-    many, one = (file_of(folder, f"lots-{count}", with_lots(count)) for count in (LOTS, 1))
-    opening = lambda place: request(f"m{place}", 1, do="open", batch="B1", blank=place)
-    discard = lambda place: request("office", place + 1, do="discard", blank=place)
-    for name, message in (("opening", opening), ("discard", discard)):
-        found = medians(lambda: requests(programs.persod, many, message), lambda: requests(programs.persod, one, message))
-        report(f"{name} with {LOTS} lots and with one", *found, "ms")
 
 
 def json_part(programs: Programs, folder: pathlib.Path, _cards: int) -> None:
@@ -199,7 +157,7 @@ def starts_part(programs: Programs, folder: pathlib.Path, cards: int) -> None:
         )
 
 
-PARTS = {"numbers": numbers_part, "lots": lots_part, "json": json_part, "machines": machines_part, "starts": starts_part}
+PARTS = {"json": json_part, "machines": machines_part, "starts": starts_part}
 
 
 def main() -> None:
