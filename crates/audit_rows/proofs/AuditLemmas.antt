@@ -9,7 +9,7 @@ use Rattle.std.proofs.lemmas.List.Folds.{find_at}
 use Rattle.std.proofs.lemmas.List.Sums.{passes_at_first}
 use Rattle.std.proofs.lemmas.Option.{slice_get_within}
 use Rattle.job_facts.specs.Facts.{Batch}
-use Rattle.job_facts.specs.Sound.{AreApart, AreLots, AreNamedOnce, AreProducts, IsBatch, IsName}
+use Rattle.job_facts.specs.Sound.{AreApart, AreLots, AreNamedOnce, AreProducts, IsBatch}
 use Rattle.table_rows.specs.After.{new_grouping}
 use Rattle.table_rows.specs.Tables.{StoredBatch, StoredGrouping, StoredLot, StoredRecord, StoredSession, StoredWord, Tables}
 use Rattle.image_laws.proofs.Lists.{flat_map_same}
@@ -169,11 +169,6 @@ module _ (t : Tables) (sorted : AreSorted t) (named : AllHold named_rules t) whe
         };
         batch_ids = batch_ids t named;
       }
-
-  pub machines_named : All (IsAuditedFile t) t.batches → All (λ (s : StoredSession). IsName s.machine) t.sessions
-  machines_named files =
-      let each = each_row t (batch_ids t named) (λ (s : StoredSession). s.batch) (IsAuditedSession t) t.sessions (owned t named).sessions_are (λ i d within. (files i d within).each_session) in
-      λ k d within. (each k d within).machine
 
 -- ---- from the audit to the rules
 

@@ -1,16 +1,15 @@
 -- The blanks of lots and sessions, compared by their serials.
-use Rattle.std.proofs.Common.{◌≡◌, ◌≢◌, ℕ, true, false, cond, List, get_or, map, All, sym, ◌∙◌, subst, arith}
-use Rattle.std.specs.Prelude.{◌==◌, AllPairs, IsPermutation, count_by}
-use Rattle.std.specs.List.Sorted.{IsNonDecreasing}
-use Rattle.std.proofs.lemmas.Bool.{false≢true}
+use Rattle.std.proofs.Common.{◌≡◌, ◌≢◌, ℕ, ◌+◌, ◌<◌, Bool, true, false, cond, ltb, List, [], get_or, map, All, sym, ◌∙◌, subst, arith}
+use Rattle.std.specs.Prelude.{AllPairs, IsPermutation, count_by}
+use Rattle.std.specs.List.{IsAllAdjacentAnswer}
+use Rattle.std.specs.List.Sorted.{IsNonDecreasing, IsNonDecreasingBy}
 use Rattle.std.proofs.lemmas.Bool.Decides.{nat_tests}
 use Rattle.std.proofs.lemmas.List.Sorted.{IsPermutation-sym, IsPermutation-trans, sum_by-IsPermutation}
 use Rattle.job_facts.specs.States.{is_in}
 use Rattle.table_rows.specs.Tables.{StoredBlank, StoredLot}
 use Rattle.image_laws.specs.Decided.{discarded_rows}
-use Rattle.row_laws.proofs.Finding.{AllPairs-from_map, AllPairs-map}
 use Rattle.row_laws.proofs.TotalRows.{sum_by-map}
-use Rattle.audit_rows.proofs.NamedLemmas.{pairs_weaker}
+use Rattle.audit_order.proofs.Tested.{granted, refused}
 use Rattle.audit_rows.proofs.SortedLemmas.{sorted_same}
 
 -- ---- counters
@@ -41,18 +40,18 @@ same_only xs ys us vs to_us to_vs up_u up_v same =
 
 -- ---- serials without duplicates
 
-differ : (m n : ℕ) → (n == m) ≡ false → m ≢ n
-differ m n e = λ same. absurd (let yes_ : (n == m) ≡ true = grind (arith, nat_tests) in false≢true (sym e ∙ yes_))
+some_blank : StoredBlank
+some_blank = record { serial = 0; lot = []; discarded = false }
 
-other : (m n : ℕ) → m ≢ n → (n == m) ≡ false
-other m n apart = grind (arith, nat_tests)
-
-pub once_apart : (blanks : List StoredBlank) → AllPairs (λ (x y : ℕ). (y == x) ≡ false) (map (λ (b : StoredBlank). b.serial) blanks) → AllPairs (λ (b c : StoredBlank). b.serial ≢ c.serial) blanks
-once_apart blanks pairs =
-    pairs_weaker (λ (b c : StoredBlank). (c.serial == b.serial) ≡ false) (λ (b c : StoredBlank). b.serial ≢ c.serial) (λ b c. differ b.serial c.serial) blanks
-    (AllPairs-from_map (λ (x y : ℕ). (y == x) ≡ false) (λ (b : StoredBlank). b.serial) blanks pairs)
-
-pub apart_once : (blanks : List StoredBlank) → AllPairs (λ (b c : StoredBlank). b.serial ≢ c.serial) blanks → AllPairs (λ (x y : ℕ). (y == x) ≡ false) (map (λ (b : StoredBlank). b.serial) blanks)
-apart_once blanks pairs =
-    AllPairs-map (λ (x y : ℕ). (y == x) ≡ false) (λ (b : StoredBlank). b.serial) blanks
-    (pairs_weaker (λ (b c : StoredBlank). b.serial ≢ c.serial) (λ (b c : StoredBlank). (c.serial == b.serial) ≡ false) (λ b c. other b.serial c.serial) blanks pairs)
+-- Serials in ascending order are distinct if and only if each is below the next.
+pub rising_once : (blanks : List StoredBlank) (r : Bool) → IsNonDecreasingBy (λ (b : StoredBlank). b.serial) blanks → IsAllAdjacentAnswer (λ (b c : StoredBlank) below. below ≡ ltb b.serial c.serial) blanks r
+    → (r ≡ true → AllPairs (λ (b c : StoredBlank). b.serial ≢ c.serial) blanks) × (AllPairs (λ (b c : StoredBlank). b.serial ≢ c.serial) blanks → r ≡ true)
+rising_once blanks true rising each = granted (λ i j d before within same.
+    let below = each i d (omega arith) in
+    let up = rising (i + 1) j d (omega arith) within in
+    let less : (get_or blanks i d).serial < (get_or blanks (i + 1) d).serial = grind (arith, nat_tests) in
+    absurd (omega arith))
+rising_once blanks false rising (k, within, fails) = refused (λ pairs.
+    let up = rising k (k + 1) some_blank (omega arith) within in
+    let other = fails some_blank in
+    absurd (pairs k (k + 1) some_blank (omega arith) within (grind (arith, nat_tests))))

@@ -1,4 +1,5 @@
 pub mod NamedLemmas
+pub mod OnceLemmas
 pub mod RuleLemmas
 pub mod AuditLemmas
 pub mod SortedLemmas

@@ -1,3 +1,4 @@
 pub mod Audit
+pub mod Clients
 pub mod RuleNames
 pub mod Rules

@@ -1,8 +1,6 @@
 //! Audits sorted rows, rule by rule.
-ghost use Rattle.std.specs.Prelude.{◌≡◌, ◌≤◌, ◌↔◌, ℕ, List, IfOk, IsTrue, All, count_by};
-ghost use Rattle.job_facts.specs.Sound.{IsName};
+ghost use Rattle.std.specs.Prelude.{◌≡◌, ◌≤◌, ◌↔◌, ℕ, List, IfOk, IsTrue, count_by};
 ghost use Rattle.table_rows.specs.Keys.{is_running_on};
-ghost use Rattle.table_rows.specs.Tables.{StoredSession as SessionValue};
 ghost use Rattle.audit_rows.specs.Rules.{IsFirstFailing, card_rules, rules};
 ghost use Rattle.audit_order.specs.Order.{AreReady, AreSorted};
 
@@ -17,7 +15,6 @@ use table_rows::Tables;
 
 // Returns `true` if no machine has two running sessions.
 fn has_machines(alloc: Global, tables: &Tables) -> Result<bool, AllocError>
-    requires { All (λ (s : SessionValue). IsName s.machine) tables.now.sessions }
     ensures { IfOk result (λ once. IsTrue once
         ↔ ((machine : List ℕ) → count_by (is_running_on machine) tables.now.sessions ≤ 1)) }
 {
@@ -26,8 +23,7 @@ fn has_machines(alloc: Global, tables: &Tables) -> Result<bool, AllocError>
 
 // Returns the first rule that fails, among those of status words, remakes and machines.
 fn failing_card(alloc: Global, tables: &Tables) -> Result<Option<Rule>, AllocError>
-    requires ready { AreReady tables.now }
-    requires machines { All (λ (s : SessionValue). IsName s.machine) tables.now.sessions }
+    requires { AreReady tables.now }
     ensures { IfOk result (IsFirstFailing card_rules tables.now) }
 {
     if !has_words(tables) {

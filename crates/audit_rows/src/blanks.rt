@@ -2,7 +2,7 @@
 ghost use Rattle.std.specs.Prelude.{◌≡◌, ◌≢◌, ◌≤◌, ◌+◌, ◌^◌, ◌&&◌, ◌↔◌, IfOk, IsTrue, All, nat_le};
 ghost use Rattle.std.specs.Prelude.{nat_lt};
 ghost use Rattle.std.specs.Prelude.{AllPairs, IsPermutation, count_by, map};
-ghost use Rattle.std.specs.List.Sorted.{IsNonDecreasing};
+ghost use Rattle.std.specs.List.Sorted.{IsNonDecreasing, IsNonDecreasingBy};
 ghost use Rattle.job_facts.specs.States.{is_in};
 ghost use Rattle.table_rows.specs.Tables.{StoredBlank as BlankValue, StoredLot as LotValue};
 ghost use Rattle.table_rows.specs.Tables.{StoredSession as SessionValue};
@@ -11,26 +11,19 @@ ghost use Rattle.audit_laws.specs.Audited.{IsAuditedBlank, IsAuditedLot, opened_
 ghost use Rattle.audit_rows.specs.Rules.{IsFirstFailing, blank_rules};
 ghost use Rattle.audit_order.specs.Order.{AreReady};
 
-use crate::once::are_once;
 use crate::rule::Rule;
 use audit_order::lot_for;
 use std::alloc::{AllocError, Global};
 use table_rows::{StoredBlank, StoredLot, StoredSession, Tables};
 
-fn blank_serials(alloc: Global, blanks: &[StoredBlank]) -> Result<Vec<u64>, AllocError>
-    ensures { IfOk result
-        (λ serials. serials.items ≡ map (λ (b : BlankValue). b.serial) blanks.now) }
+// Returns `true` if no two blanks have the same serial. Compares only neighbours, because the blanks
+// are in the order of their serials.
+fn are_blanks_once(blanks: &[StoredBlank]) -> bool
+    requires { IsNonDecreasingBy (λ (b : BlankValue). b.serial) blanks.now }
+    ensures { IsTrue result
+        ↔ AllPairs (λ (b c : BlankValue). b.serial ≢ c.serial) blanks.now }
 {
-    blanks.iter().map(|blank| blank.serial).collect(alloc)
-}
-
-// Returns `true` if no two blanks have the same serial.
-fn are_blanks_once(alloc: Global, blanks: &[StoredBlank]) -> Result<bool, AllocError>
-    ensures { IfOk result (λ once. IsTrue once
-        ↔ AllPairs (λ (b c : BlankValue). b.serial ≢ c.serial) blanks.now) }
-{
-    let serials = blank_serials(alloc, blanks)?;
-    are_once(alloc, &serials)
+    blanks.is_sorted_by(|blank, next| blank.serial < next.serial)
 }
 
 // Returns `true` if the row of `blank` names the lot `lot`.
@@ -194,11 +187,12 @@ fn has_counts(alloc: Global, tables: &Tables) -> Result<bool, AllocError>
 }
 
 // Returns `true` if no two blanks of `tables` have the same serial.
-fn has_once(alloc: Global, tables: &Tables) -> Result<bool, AllocError>
-    ensures { IfOk result (λ once. IsTrue once
-        ↔ AllPairs (λ (b c : BlankValue). b.serial ≢ c.serial) tables.now.blanks) }
+fn has_once(tables: &Tables) -> bool
+    requires { IsNonDecreasingBy (λ (b : BlankValue). b.serial) tables.now.blanks }
+    ensures { IsTrue result
+        ↔ AllPairs (λ (b c : BlankValue). b.serial ≢ c.serial) tables.now.blanks }
 {
-    are_blanks_once(alloc, &tables.blanks)
+    are_blanks_once(&tables.blanks)
 }
 
 // Returns `true` if the serial of each blank of `tables` is in the lot that its row names.
@@ -225,15 +219,15 @@ fn has_opened(alloc: Global, tables: &Tables) -> Result<bool, AllocError>
 ///
 /// Returns `AllocError` if an allocation fails.
 pub(crate) fn failing_blank(alloc: Global, tables: &Tables) -> Result<Option<Rule>, AllocError>
-    requires { AreReady tables.now }
+    requires ready { AreReady tables.now }
+    requires rising { IsNonDecreasingBy (λ (b : BlankValue). b.serial) tables.now.blanks }
     ensures { IfOk result (IsFirstFailing blank_rules tables.now) }
 {
     let counted = has_counts(alloc, tables)?;
     if !counted {
         return Ok(Some(Rule::LotCounters));
     }
-    let once = has_once(alloc, tables)?;
-    if !once {
+    if !has_once(tables) {
         return Ok(Some(Rule::BlankTwice));
     }
     if !has_lots(tables) {

@@ -1,7 +1,5 @@
 //! Checks the machines of running sessions.
-ghost use Rattle.std.specs.Prelude.{◌≡◌, ◌≤◌, ◌↔◌, ℕ, List, IfOk, IsTrue, All, count_by, filter};
-ghost use Rattle.std.specs.Prelude.{map};
-ghost use Rattle.job_facts.specs.Sound.{IsName};
+ghost use Rattle.std.specs.Prelude.{◌≡◌, ◌≤◌, ◌↔◌, ℕ, List, IfOk, IsTrue, count_by, filter, map};
 ghost use Rattle.job_facts.specs.States.{is_running};
 ghost use Rattle.table_rows.specs.Keys.{is_running_on};
 ghost use Rattle.table_rows.specs.Tables.{StoredSession as SessionValue};
@@ -9,16 +7,7 @@ ghost use Rattle.table_rows.specs.Tables.{StoredSession as SessionValue};
 use crate::once::are_once;
 use job_facts::SessionState;
 use std::alloc::{AllocError, Global};
-use store_data::Name;
 use table_rows::StoredSession;
-
-// Returns the machine of a session, which has a valid name.
-fn machine_of(session: &StoredSession) -> Name
-    requires { IsName session.now.machine }
-    ensures { result ≡ session.now.machine }
-{
-    Name::new(&session.machine).unwrap()
-}
 
 // Returns `true` if the session is running.
 fn runs(session: &StoredSession) -> bool
@@ -28,18 +17,16 @@ fn runs(session: &StoredSession) -> bool
 }
 
 // Returns the machine of each running session.
-fn running_machines(alloc: Global, sessions: &[StoredSession]) -> Result<Vec<Name>, AllocError>
-    requires { All (λ (s : SessionValue). IsName s.machine) sessions.now }
-    ensures { IfOk result (λ names. names.items ≡ map (λ (s : SessionValue). s.machine)
+fn running_machines(alloc: Global, sessions: &[StoredSession]) -> Result<Vec<&[u8]>, AllocError>
+    ensures { IfOk result (λ names. map (λ name. name.now) names.items
+        ≡ map (λ (s : SessionValue). s.machine)
         (filter (λ (s : SessionValue). is_running s.state) sessions.now)) }
 {
-    let mut names = Vec::new(alloc);
-    for session in sessions {
-        if runs(session) {
-            names.push(machine_of(session))?;
-        }
-    }
-    Ok(names)
+    sessions
+        .iter()
+        .filter(|session| runs(session))
+        .map(|session| session.machine.as_slice())
+        .collect(alloc)
 }
 
 /// Returns `true` if no machine has two running sessions.
@@ -48,7 +35,6 @@ fn running_machines(alloc: Global, sessions: &[StoredSession]) -> Result<Vec<Nam
 ///
 /// Returns `AllocError` if an allocation fails.
 pub(crate) fn run_once(alloc: Global, sessions: &[StoredSession]) -> Result<bool, AllocError>
-    requires { All (λ (s : SessionValue). IsName s.machine) sessions.now }
     ensures { IfOk result (λ once. IsTrue once
         ↔ ((machine : List ℕ) → count_by (is_running_on machine) sessions.now ≤ 1)) }
 {

@@ -1,10 +1,8 @@
 //! Checks that a list has no two equal items, or no two rows that aren't apart.
-ghost use Rattle.std.specs.Prelude.{◌≡◌, ◌↔◌, Bool, true, false, IfOk, IfSome, IsTrue, All};
-ghost use Rattle.std.specs.Prelude.{AllPairs, None};
+ghost use Rattle.std.specs.Prelude.{◌≡◌, ◌↔◌, Bool, true, false, IfOk, IsTrue, All, AllPairs};
 
-use indexmap::IndexSet;
 use std::alloc::{AllocError, Global};
-use std::hash::Hash;
+use std::collections::BTreeSet;
 
 /// A row that must differ from all other rows of its table.
 pub(crate) trait Apart {
@@ -34,41 +32,15 @@ pub(crate) fn are_apart<T: Apart>(rows: &[T]) -> bool
     true
 }
 
-/// Returns the set of the items, or `None` if two of them are equal.
+/// Returns `true` if no two items are equal. Takes time in O(n log n) for any n items: clients choose
+/// many of the items, and could choose them so that a hash set takes quadratic time.
 ///
 /// # Errors
 ///
 /// Returns `AllocError` if an allocation fails.
-pub(crate) fn set_of<T: Eq + Hash + Copy + Drop>(
-    alloc: Global,
-    items: &[T],
-) -> Result<Option<IndexSet<T>>, AllocError>
-    ensures keys { IfOk result (λ found. IfSome found (λ set. set.keys ≡ items.now)) }
-    ensures once { IfOk result
-        (λ found. IfSome found (λ _. AllPairs (λ x y. T.eq y x ≡ false) items.now)) }
-    ensures none { IfOk result
-        (λ found. found ≡ None → AllPairs (λ x y. T.eq y x ≡ false) items.now → ⊥) }
-{
-    let mut set = IndexSet::new(alloc);
-    for item in items {
-        if !set.insert(*item)? {
-            return Ok(None);
-        }
-    }
-    Ok(Some(set))
-}
-
-/// Returns `true` if no two items are equal.
-///
-/// # Errors
-///
-/// Returns `AllocError` if an allocation fails.
-pub(crate) fn are_once<T: Eq + Hash + Copy + Drop>(
-    alloc: Global,
-    items: &[T],
-) -> Result<bool, AllocError>
+pub(crate) fn are_once<T: Ord + Copy + Drop>(alloc: Global, items: &[T]) -> Result<bool, AllocError>
     ensures { IfOk result (λ once. IsTrue once ↔ AllPairs (λ x y. T.eq y x ≡ false) items.now) }
 {
-    let found = set_of(alloc, items)?;
-    Ok(found.is_some())
+    let set: BTreeSet<T> = items.iter().copied().collect(alloc)?;
+    Ok(set.len() == items.len())
 }

@@ -1,17 +1,17 @@
 //! Checks the kept replies and the release marks.
-ghost use Rattle.std.specs.Prelude.{◌≡◌, ◌≤◌, ◌<◌, ◌^◌, ◌⊎◌, ◌↔◌, false, IfOk, IfSome, IsTrue, All};
-ghost use Rattle.std.specs.Prelude.{AllPairs, None, bytes_eq, map};
+ghost use Rattle.std.specs.Prelude.{◌≡◌, ◌≤◌, ◌<◌, ◌^◌, ◌⊎◌, ◌↔◌, ℕ, List, false, IfOk, IsTrue, All};
+ghost use Rattle.std.specs.Prelude.{AllPairs, bytes_eq, map};
 ghost use Rattle.job_facts.specs.Contents.{Entry, IsEntry, IsMark, Mark, is_above, is_of_number};
 ghost use Rattle.job_facts.specs.Contents.{mark_of};
 ghost use Rattle.job_facts.specs.Sound.{IsName};
+ghost use Rattle.audit_rows.specs.Clients.{mark_at, named};
 ghost use Rattle.audit_rows.specs.Rules.{IsFirstFailing, reply_rules};
 
-use crate::once::{are_once, set_of};
+use crate::once::are_once;
 use crate::rule::Rule;
 use audit_order::is_name;
-use indexmap::IndexSet;
 use std::alloc::{AllocError, Global};
-use store_data::Name;
+use std::collections::BTreeMap;
 use table_rows::{StoredMark, StoredReply, Tables};
 
 /// The limit of request numbers and release marks: all of them are below it.
@@ -61,95 +61,38 @@ fn are_entries(replies: &[StoredReply]) -> bool
     replies.iter().all(|reply| is_entry(reply))
 }
 
-fn client_of(mark: &StoredMark) -> Name
-    requires { IsName mark.now.client }
-    ensures { result ≡ mark.now.client }
+fn clients_of(alloc: Global, marks: &[StoredMark]) -> Result<Vec<&[u8]>, AllocError>
+    ensures { IfOk result (λ names. map (λ name. name.now) names.items
+        ≡ map (λ (m : Mark). m.client) marks.now) }
 {
-    Name::new(&mark.client).unwrap()
+    marks
+        .iter()
+        .map(|mark| mark.client.as_slice())
+        .collect(alloc)
 }
 
-fn clients_of(alloc: Global, marks: &[StoredMark]) -> Result<Vec<Name>, AllocError>
-    requires { All IsMark marks.now }
-    ensures { IfOk result (λ names. names.items ≡ map (λ (m : Mark). m.client) marks.now) }
+// Returns `true` if no client has two release marks.
+fn are_marked_once(alloc: Global, marks: &[StoredMark]) -> Result<bool, AllocError>
+    ensures { IfOk result (λ once. IsTrue once
+        ↔ AllPairs (λ (m n : Mark). bytes_eq m.client n.client ≡ false) marks.now) }
 {
-    let mut names = Vec::new(alloc);
-    for mark in marks {
-        names.push(client_of(mark))?;
-    }
-    Ok(names)
+    let clients = clients_of(alloc, marks)?;
+    are_once(alloc, &clients)
 }
 
-fn asker_of(reply: &StoredReply) -> Name
-    requires { IsName reply.now.client }
-    ensures { result ≡ reply.now.client }
-{
-    Name::new(&reply.client).unwrap()
-}
-
-// Returns the client and the request number of a kept reply.
-fn number_of(reply: &StoredReply) -> (Name, u64)
-    requires { IsName reply.now.client }
-    ensures { result ≡ (reply.now.client, reply.now.number) }
-{
-    (asker_of(reply), reply.number)
-}
-
-fn numbers_of(alloc: Global, replies: &[StoredReply]) -> Result<Vec<(Name, u64)>, AllocError>
-    requires { All IsEntry replies.now }
-    ensures { IfOk result (λ numbers. numbers.items
+// Returns the client and the request number of each kept reply.
+fn numbers_of(alloc: Global, replies: &[StoredReply]) -> Result<Vec<(&[u8], u64)>, AllocError>
+    ensures { IfOk result (λ numbers. map named numbers.items
         ≡ map (λ (e : Entry). (e.client, e.number)) replies.now) }
 {
-    let mut numbers = Vec::new(alloc);
-    for reply in replies {
-        numbers.push(number_of(reply))?;
-    }
-    Ok(numbers)
-}
-
-fn upto_of(mark: &StoredMark) -> u64
-    ensures { result ≡ mark.now.upto }
-{
-    mark.upto
-}
-
-// Returns the release mark of `client`, or 0 if it has released nothing. `clients` are the clients
-// of `marks`, in the same order.
-fn mark_of(marks: &[StoredMark], clients: &IndexSet<Name>, client: &Name) -> u64
-    requires { clients.now.keys ≡ map (λ (m : Mark). m.client) marks.now }
-    ensures { result ≡ mark_of marks.now client.now }
-{
-    match clients.get_index_of(client) {
-        None => 0,
-        Some(place) => upto_of(&marks[place]),
-    }
-}
-
-// Returns `true` if the request number of `reply` is above the release mark of its client.
-fn is_above(marks: &[StoredMark], clients: &IndexSet<Name>, reply: &StoredReply) -> bool
-    requires clients { clients.now.keys ≡ map (λ (m : Mark). m.client) marks.now }
-    requires named { IsName reply.now.client }
-    ensures { IsTrue result ↔ IsTrue (is_above marks.now reply.now) }
-{
-    mark_of(marks, clients, &asker_of(reply)) < reply.number
-}
-
-// Returns `true` if the request number of each reply is above the release mark of its client.
-fn are_above(marks: &[StoredMark], clients: &IndexSet<Name>, replies: &[StoredReply]) -> bool
-    requires clients { clients.now.keys ≡ map (λ (m : Mark). m.client) marks.now }
-    requires replies { All IsEntry replies.now }
-    ensures { IsTrue result ↔ All (λ (e : Entry). IsTrue (is_above marks.now e)) replies.now }
-{
-    for reply in replies {
-        if !is_above(marks, clients, reply) {
-            return false;
-        }
-    }
-    true
+    replies
+        .iter()
+        .map(|reply| (reply.client.as_slice(), reply.number))
+        .collect(alloc)
 }
 
 // Returns `true` if no client has two kept replies with the same request number.
 fn are_kept_once(alloc: Global, replies: &[StoredReply]) -> Result<bool, AllocError>
-    requires { All IsEntry replies.now }
     ensures { IfOk result (λ once. IsTrue once
         ↔ AllPairs (λ (d e : Entry). is_of_number d e ≡ false) replies.now) }
 {
@@ -157,18 +100,54 @@ fn are_kept_once(alloc: Global, replies: &[StoredReply]) -> Result<bool, AllocEr
     are_once(alloc, &numbers)
 }
 
-// Returns the clients of `marks`, or `None` if a client has two release marks.
-fn marked_clients(alloc: Global, marks: &[StoredMark]) -> Result<Option<IndexSet<Name>>, AllocError>
-    requires { All IsMark marks.now }
-    ensures keys { IfOk result (λ found. IfSome found
-        (λ set. set.keys ≡ map (λ (m : Mark). m.client) marks.now)) }
-    ensures once { IfOk result (λ found. IfSome found (λ _.
-        AllPairs (λ (m n : Mark). bytes_eq m.client n.client ≡ false) marks.now)) }
-    ensures none { IfOk result (λ found. found ≡ None
-        → AllPairs (λ (m n : Mark). bytes_eq m.client n.client ≡ false) marks.now → ⊥) }
+// Returns the release mark of each client.
+fn by_client(alloc: Global, marks: &[StoredMark]) -> Result<BTreeMap<&[u8], u64>, AllocError>
+    requires { AllPairs (λ (m n : Mark). bytes_eq m.client n.client ≡ false) marks.now }
+    ensures { IfOk result
+        (λ uptos. (client : List ℕ) → mark_at uptos client ≡ mark_of marks.now client) }
 {
-    let names = clients_of(alloc, marks)?;
-    set_of(alloc, &names)
+    marks
+        .iter()
+        .map(|mark| (mark.client.as_slice(), mark.upto))
+        .collect(alloc)
+}
+
+// Returns the release mark of `client`, or 0 if it has released nothing.
+#[tactic(auto, unfolding(crate::specs::Clients::mark_at))]
+fn mark_at(uptos: &BTreeMap<&[u8], u64>, client: &[u8]) -> u64
+    ensures { result ≡ mark_at uptos.now client.now }
+{
+    uptos.get(client).copied().unwrap_or(0)
+}
+
+// Returns `true` if the request number of `reply` is above the release mark of its client.
+fn is_above(uptos: &BTreeMap<&[u8], u64>, reply: &StoredReply) -> bool
+    ensures { IsTrue result ↔ (mark_at uptos.now reply.now.client < reply.now.number) }
+{
+    mark_at(uptos, &reply.client) < reply.number
+}
+
+// Returns `true` if the request number of each reply is above the release mark of its client.
+fn are_above(uptos: &BTreeMap<&[u8], u64>, replies: &[StoredReply]) -> bool
+    ensures { IsTrue result
+        ↔ All (λ (e : Entry). mark_at uptos.now e.client < e.number) replies.now }
+{
+    replies.iter().all(|reply| is_above(uptos, reply))
+}
+
+// Returns `true` if the request number of each reply is above the release mark of its client in
+// `marks`.
+fn are_unreleased(
+    alloc: Global,
+    marks: &[StoredMark],
+    replies: &[StoredReply],
+) -> Result<bool, AllocError>
+    requires { AllPairs (λ (m n : Mark). bytes_eq m.client n.client ≡ false) marks.now }
+    ensures { IfOk result (λ above. IsTrue above
+        ↔ All (λ (e : Entry). IsTrue (is_above marks.now e)) replies.now) }
+{
+    let uptos = by_client(alloc, marks)?;
+    Ok(are_above(&uptos, replies))
 }
 
 fn has_marks(tables: &Tables) -> bool
@@ -183,32 +162,26 @@ fn has_entries(tables: &Tables) -> bool
     are_entries(&tables.replies)
 }
 
-// Returns the clients of the release marks of `tables`, or `None` if a client has two of them.
-fn clients_in(alloc: Global, tables: &Tables) -> Result<Option<IndexSet<Name>>, AllocError>
-    requires { All IsMark tables.now.marks }
-    ensures keys { IfOk result (λ found. IfSome found
-        (λ set. set.keys ≡ map (λ (m : Mark). m.client) tables.now.marks)) }
-    ensures once { IfOk result (λ found. IfSome found (λ _.
-        AllPairs (λ (m n : Mark). bytes_eq m.client n.client ≡ false) tables.now.marks)) }
-    ensures none { IfOk result (λ found. found ≡ None
-        → AllPairs (λ (m n : Mark). bytes_eq m.client n.client ≡ false) tables.now.marks → ⊥) }
+// Returns `true` if no client has two release marks in `tables`.
+fn has_marked_once(alloc: Global, tables: &Tables) -> Result<bool, AllocError>
+    ensures { IfOk result (λ once. IsTrue once
+        ↔ AllPairs (λ (m n : Mark). bytes_eq m.client n.client ≡ false) tables.now.marks) }
 {
-    marked_clients(alloc, &tables.marks)
+    are_marked_once(alloc, &tables.marks)
 }
 
-// Returns `true` if the request number of each kept reply is above the release mark of its client.
-fn has_above(tables: &Tables, clients: &IndexSet<Name>) -> bool
-    requires clients { clients.now.keys ≡ map (λ (m : Mark). m.client) tables.now.marks }
-    requires replies { All IsEntry tables.now.replies }
-    ensures { IsTrue result
-        ↔ All (λ (e : Entry). IsTrue (is_above tables.now.marks e)) tables.now.replies }
+// Returns `true` if the request number of each kept reply of `tables` is above the release mark of
+// its client.
+fn has_unreleased(alloc: Global, tables: &Tables) -> Result<bool, AllocError>
+    requires { AllPairs (λ (m n : Mark). bytes_eq m.client n.client ≡ false) tables.now.marks }
+    ensures { IfOk result (λ above. IsTrue above
+        ↔ All (λ (e : Entry). IsTrue (is_above tables.now.marks e)) tables.now.replies) }
 {
-    are_above(&tables.marks, clients, &tables.replies)
+    are_unreleased(alloc, &tables.marks, &tables.replies)
 }
 
 // Returns `true` if no client has two kept replies with the same request number in `tables`.
 fn has_kept_once(alloc: Global, tables: &Tables) -> Result<bool, AllocError>
-    requires { All IsEntry tables.now.replies }
     ensures { IfOk result (λ once. IsTrue once
         ↔ AllPairs (λ (d e : Entry). is_of_number d e ≡ false) tables.now.replies) }
 {
@@ -229,11 +202,12 @@ pub(crate) fn failing_reply(alloc: Global, tables: &Tables) -> Result<Option<Rul
     if !has_entries(tables) {
         return Ok(Some(Rule::Replies));
     }
-    let found = clients_in(alloc, tables)?;
-    let Some(clients) = found else {
+    let marked_once = has_marked_once(alloc, tables)?;
+    if !marked_once {
         return Ok(Some(Rule::MarkTwice));
-    };
-    if !has_above(tables, &clients) {
+    }
+    let unreleased = has_unreleased(alloc, tables)?;
+    if !unreleased {
         return Ok(Some(Rule::ReleasedReplies));
     }
     let once = has_kept_once(alloc, tables)?;

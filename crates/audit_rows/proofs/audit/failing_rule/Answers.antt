@@ -1,7 +1,7 @@
 use Rattle.std.proofs.Common.{[], ◌∷◌, ◌++◌, ◌∙◌, sym}
 use Rattle.audit_rows.specs.declared.rule.Rule.TheVariants.{Files}
 use Rattle.audit_rows.specs.Rules.{blank_rules, card_rules, named_rules, reply_rules}
-use Rattle.audit_rows.proofs.AuditLemmas.{machines_named, ready_of}
+use Rattle.audit_rows.proofs.AuditLemmas.{ready_of}
 use Rattle.audit_rows.proofs.RuleLemmas.{all_hold, broken, fails_at, first_after, first_found_after, first_of_more, where_none}
 use Rattle.audit_rows.proofs.audit.failing_rule.Goals as goal
 
@@ -21,16 +21,10 @@ returns-then-not-files c =
     let named = where_none t named_rules c.failing_name-named.result (sym c.is_some.ensures ∙ c.if-is_some.false) c.failing_name-named.ensures in
     fails_at t named_rules (card_rules ++ blank_rules ++ reply_rules) Files named (broken c.if-not-files.true c.in_ok-files.ensures)
 
-pub failing_card-requires-clause-ready : goal.failing_card-requires-clause-ready
-failing_card-requires-clause-ready c =
+pub failing_card-requires : goal.failing_card-requires
+failing_card-requires c =
     let t = c.args.tables.now in
     ready_of t c.requires (where_none t named_rules c.failing_name-named.result (sym c.is_some.ensures ∙ c.if-is_some.false) c.failing_name-named.ensures)
-
-pub failing_card-requires-clause-machines : goal.failing_card-requires-clause-machines
-failing_card-requires-clause-machines c =
-    let t = c.args.tables.now in
-    let named = where_none t named_rules c.failing_name-named.result (sym c.is_some.ensures ∙ c.if-is_some.false) c.failing_name-named.ensures in
-    machines_named t c.requires named (c.in_ok-files.ensures.0 c.if-not-files.false)
 
 pub returns-then-is_some-2 : goal.returns-then-is_some-2
 returns-then-is_some-2 c =
@@ -40,10 +34,13 @@ returns-then-is_some-2 c =
     first_after t (named_rules ++ (Files ∷ [])) (card_rules ++ blank_rules ++ reply_rules) c.in_ok-card.card held
     (first_of_more t card_rules (blank_rules ++ reply_rules) c.in_ok-card.card (sym c.is_some-2.ensures ∙ c.if-is_some-2.true) c.in_ok-card.ensures)
 
-pub failing_blank-requires : goal.failing_blank-requires
-failing_blank-requires c =
+pub failing_blank-requires-clause-ready : goal.failing_blank-requires-clause-ready
+failing_blank-requires-clause-ready c =
     let t = c.args.tables.now in
     ready_of t c.requires (where_none t named_rules c.failing_name-named.result (sym c.is_some.ensures ∙ c.if-is_some.false) c.failing_name-named.ensures)
+
+pub failing_blank-requires-clause-rising : goal.failing_blank-requires-clause-rising
+failing_blank-requires-clause-rising c = c.requires.blanks
 
 pub returns-then-is_some-3 : goal.returns-then-is_some-3
 returns-then-is_some-3 c =

@@ -1,13 +1,10 @@
-use Rattle.std.proofs.Common.{◌≡◌, ◌∙◌, ℕ, false, subst, sym}
-use Rattle.std.specs.Prelude.{◌==◌, AllPairs}
-use Rattle.audit_rows.proofs.BlankLemmas.{apart_once, once_apart}
-use Rattle.audit_order.proofs.Tested.{test_as}
+use Rattle.std.proofs.Common.{ltb, rules, tests}
+use Rattle.std.proofs.lemmas.List.Sorted.{answers_always}
+use Rattle.table_rows.specs.Tables.{StoredBlank}
+use Rattle.audit_rows.proofs.BlankLemmas.{rising_once}
 use Rattle.audit_rows.proofs.blanks.are_blanks_once.Goals as goal
 
 pub returns : goal.returns
 returns c =
-    let serials = c.deref.ensures.value ∙ c.in_ok-serials.ensures in
-    test_as c.are_once.result
-    (λ pairs. once_apart c.args.blanks.now (subst (AllPairs (λ (x y : ℕ). (y == x) ≡ false)) serials pairs))
-    (λ apart. subst (AllPairs (λ (x y : ℕ). (y == x) ≡ false)) (sym serials) (apart_once c.args.blanks.now apart))
-    c.are_once.ensures
+    rising_once c.args.blanks.now c.is_sorted_by.result c.requires
+    (c.is_sorted_by.ensures.cases (λ (b d : StoredBlank). ltb b.serial d.serial) (answers_always _ _ _ (λ f a r g k. search (rules, tests))))
