@@ -1,5 +1,5 @@
--- A list has no two equal items if and only if the set of its items is as large. Items are
--- compared by what a function reads of them.
+-- A list has no two equal items if and only if the set of its items is as large as the list. Items
+-- are also compared by what a function reads of them.
 use Rattle.std.proofs.Common.{Ordering, ◌≡◌, ℕ, Bool, true, false, List, length, map, sym, ◌∙◌, subst, arith}
 use Rattle.std.specs.Prelude.{◌==◌, AllPairs}
 use Rattle.std.specs.Cmp.{IsTotalOrder}

@@ -32,8 +32,8 @@ pub(crate) fn are_apart<T: Apart>(rows: &[T]) -> bool
     true
 }
 
-/// Returns `true` if no two items are equal. Takes time in O(n log n) for any n items: clients choose
-/// many of the items, and could choose them so that a hash set takes quadratic time.
+/// Returns `true` if no two items are equal. Takes time in O(n log n) for n items. A hash set could
+/// take quadratic time, because its hash isn't secret and clients choose many of the items.
 ///
 /// # Errors
 ///

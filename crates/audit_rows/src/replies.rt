@@ -120,14 +120,16 @@ fn mark_at(uptos: &BTreeMap<&[u8], u64>, client: &[u8]) -> u64
     uptos.get(client).copied().unwrap_or(0)
 }
 
-// Returns `true` if the request number of `reply` is above the release mark of its client.
+// Returns `true` if the request number of `reply` is above the release mark of its client in
+// `uptos`.
 fn is_above(uptos: &BTreeMap<&[u8], u64>, reply: &StoredReply) -> bool
     ensures { IsTrue result ↔ (mark_at uptos.now reply.now.client < reply.now.number) }
 {
     mark_at(uptos, &reply.client) < reply.number
 }
 
-// Returns `true` if the request number of each reply is above the release mark of its client.
+// Returns `true` if the request number of each reply is above the release mark of its client in
+// `uptos`.
 fn are_above(uptos: &BTreeMap<&[u8], u64>, replies: &[StoredReply]) -> bool
     ensures { IsTrue result
         ↔ All (λ (e : Entry). mark_at uptos.now e.client < e.number) replies.now }
