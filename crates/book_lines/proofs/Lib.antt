@@ -5,4 +5,5 @@ pub mod LotLemmas
 pub mod CardLemmas
 pub mod BootLemmas
 pub mod ClientLemmas
+pub mod MachineLemmas
 pub mod ReportLemmas

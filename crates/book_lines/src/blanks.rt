@@ -99,7 +99,7 @@ fn blanks_text(
 fn charges_of<'a>(
     alloc: Global,
     tables: &'a Tables,
-    by_serial: &[Keyed<'a>],
+    by_serial: &[Keyed<'a, StoredSession>],
     product: &Name,
 ) -> Result<Vec<Charge<'a>>, AllocError>
     requires ready { AreReady tables.now }
@@ -135,7 +135,7 @@ fn is_for(lot: &StoredLot, product: &Name) -> bool
 }
 
 // Returns the charged blank `blank` with its session. A discarded blank has no session.
-fn charge_of<'a>(by_serial: &[Keyed<'a>], blank: &'a StoredBlank) -> Charge<'a>
+fn charge_of<'a>(by_serial: &[Keyed<'a, StoredSession>], blank: &'a StoredBlank) -> Charge<'a>
     requires { IsNonDecreasingBy (λ (k : ℕ × SessionValue). k.0) by_serial.now }
     ensures { (t : TablesValue)
         → AreKeyed (λ (s : SessionValue). s.serial) t.sessions by_serial.now
@@ -168,7 +168,7 @@ pub fn batch_charges(alloc: Global, tables: &Tables, id: u64) -> Result<Vec<Char
 fn add_charges<'a>(
     charges: &mut Vec<Charge<'a>>,
     tables: &'a Tables,
-    by_serial: &[Keyed<'a>],
+    by_serial: &[Keyed<'a, StoredSession>],
     id: u64,
 ) -> Result<(), AllocError>
     requires { AreKeyed (λ (s : SessionValue). s.serial) tables.now.sessions by_serial.now }

@@ -20,7 +20,7 @@ use crate::line::push_line;
 use audit_order::range_of;
 use std::alloc::{AllocError, Global};
 use store_data::Name;
-use table_rows::{StoredBatch, StoredRecord, Tables};
+use table_rows::{StoredBatch, StoredRecord, StoredSession, Tables};
 
 /// Returns the output of `shopbook cards` for the batch `batch`, or `None` if the batch doesn't
 /// exist. It has a line for each session, by its records in file order, with the number of its
@@ -106,7 +106,7 @@ fn add_records<'a>(
     tables: &'a Tables,
     id: u64,
     records: &'a [StoredRecord],
-    by_place: &[Keyed<'a>],
+    by_place: &[Keyed<'a, StoredSession>],
 ) -> Result<(), AllocError>
     requires ready { AreReady tables.now }
     requires records { All (λ (r : RecordValue). r.batch ≡ id) records.now }
@@ -126,7 +126,7 @@ fn add_record<'a>(
     cards: &mut Vec<Card<'a>>,
     tables: &'a Tables,
     rec: &'a StoredRecord,
-    by_place: &[Keyed<'a>],
+    by_place: &[Keyed<'a, StoredSession>],
 ) -> Result<(), AllocError>
     requires ready { AreReady tables.now }
     requires keyed { AreKeyed (λ (s : SessionValue). s.place)
@@ -142,7 +142,7 @@ fn add_sessions<'a>(
     cards: &mut Vec<Card<'a>>,
     tables: &'a Tables,
     rec: &'a StoredRecord,
-    sessions: &[Keyed<'a>],
+    sessions: &[Keyed<'a, StoredSession>],
 ) -> Result<(), AllocError>
     requires { AreReady tables.now }
     ensures { OnOk result (cards.new.items ≡ cards.old.items

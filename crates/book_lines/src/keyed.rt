@@ -1,4 +1,4 @@
-//! Sessions keyed by a number, for look-ups by binary search.
+//! Rows keyed by a number, for look-ups by binary search.
 ghost use Rattle.std.specs.Prelude.{◌≡◌, ◌∷◌, [], ℕ, IfOk, List, filter, map, option_map};
 ghost use Rattle.std.specs.Prelude.{slice_get};
 ghost use Rattle.audit_laws.specs.Audited.{is_session_of};
@@ -12,24 +12,23 @@ use std::alloc::{AllocError, Global};
 use std::marker::Model;
 use table_rows::StoredSession;
 
-/// A session with its key.
+/// A row with its key.
 #[derive(Drop)]
-pub(crate) struct Keyed<'a> {
+pub(crate) struct Keyed<'a, T> {
     pub(crate) number: u64,
-    pub(crate) row: &'a StoredSession,
+    pub(crate) row: &'a T,
 }
 
-impl<'a> Model for Keyed<'a> {
+impl<'a, T> Model for Keyed<'a, T> {
     ghost use Rattle.std.specs.Prelude.{ℕ};
-    ghost use Rattle.table_rows.specs.Tables.{StoredSession as SessionValue};
 
-    ghost Value = { ℕ × SessionValue };
+    ghost Value = { ℕ × T };
 
     ghost view = { λ k. (k.number, k.row.now) };
 }
 
-/// Sorts keyed sessions by their keys.
-impl<'a> InOrder for Keyed<'a> {
+/// Sorts keyed rows by their keys.
+impl<'a, T> InOrder for Keyed<'a, T> {
     ghost key = { λ k. k.0 ∷ 0 ∷ 0 ∷ [] };
 
     fn key(&self) -> [u64; 3] {
@@ -37,8 +36,8 @@ impl<'a> InOrder for Keyed<'a> {
     }
 }
 
-/// Finds keyed sessions by their keys.
-impl<'a> Ranged for Keyed<'a> {
+/// Finds keyed rows by their keys.
+impl<'a, T> Ranged for Keyed<'a, T> {
     ghost number = { λ k. k.0 };
 
     fn number(&self) -> u64 {
@@ -47,7 +46,10 @@ impl<'a> Ranged for Keyed<'a> {
 }
 
 // Returns the sessions keyed by serial, in the order of `sessions`.
-fn serials(alloc: Global, sessions: &[StoredSession]) -> Result<Vec<Keyed<'_>>, AllocError>
+fn serials(
+    alloc: Global,
+    sessions: &[StoredSession],
+) -> Result<Vec<Keyed<'_, StoredSession>>, AllocError>
     ensures { IfOk result
         (λ keyed. keyed.items ≡ map (λ (s : SessionValue). (s.serial, s)) sessions.now) }
 {
@@ -69,7 +71,7 @@ fn serials(alloc: Global, sessions: &[StoredSession]) -> Result<Vec<Keyed<'_>>, 
 pub(crate) fn by_serial(
     alloc: Global,
     sessions: &[StoredSession],
-) -> Result<Vec<Keyed<'_>>, AllocError>
+) -> Result<Vec<Keyed<'_, StoredSession>>, AllocError>
     ensures { IfOk result
         (λ keyed. AreKeyed (λ (s : SessionValue). s.serial) sessions.now keyed.items) }
 {
@@ -84,7 +86,7 @@ fn places(
     alloc: Global,
     sessions: &[StoredSession],
     batch: u64,
-) -> Result<Vec<Keyed<'_>>, AllocError>
+) -> Result<Vec<Keyed<'_, StoredSession>>, AllocError>
     ensures { IfOk result (λ keyed. keyed.items
         ≡ map (λ (s : SessionValue). (s.place, s)) (filter (is_session_of batch) sessions.now)) }
 {
@@ -110,7 +112,7 @@ pub(crate) fn by_place(
     alloc: Global,
     sessions: &[StoredSession],
     batch: u64,
-) -> Result<Vec<Keyed<'_>>, AllocError>
+) -> Result<Vec<Keyed<'_, StoredSession>>, AllocError>
     ensures { IfOk result (λ keyed. AreKeyed (λ (s : SessionValue). s.place)
         (filter (is_session_of batch) sessions.now) keyed.items) }
 {
@@ -120,7 +122,10 @@ pub(crate) fn by_place(
 }
 
 /// Returns the first session on the blank `serial`.
-pub(crate) fn session_on<'a>(by_serial: &[Keyed<'a>], serial: u64) -> Option<&'a StoredSession>
+pub(crate) fn session_on<'a>(
+    by_serial: &[Keyed<'a, StoredSession>],
+    serial: u64,
+) -> Option<&'a StoredSession>
     requires { IsNonDecreasingBy (λ (k : ℕ × SessionValue). k.0) by_serial.now }
     ensures { (sessions : List SessionValue)
         → AreKeyed (λ (s : SessionValue). s.serial) sessions by_serial.now
@@ -130,7 +135,7 @@ pub(crate) fn session_on<'a>(by_serial: &[Keyed<'a>], serial: u64) -> Option<&'a
 }
 
 // Returns the session of the first element.
-fn first_row<'a>(keyed: &[Keyed<'a>]) -> Option<&'a StoredSession>
+fn first_row<'a>(keyed: &[Keyed<'a, StoredSession>]) -> Option<&'a StoredSession>
     ensures { option_map (λ s. s.now) result
         ≡ option_map (λ (k : ℕ × SessionValue). k.1) (slice_get keyed.now 0) }
 {

@@ -3,6 +3,7 @@
 
 mod blank_state;
 mod blanks;
+mod by_client;
 mod card;
 mod cards;
 mod cell;

@@ -119,7 +119,7 @@ fn lines_of(
 
 // Returns the line of the record `rec`. `by_place` contains the sessions of its batch, keyed by the
 // positions of their records.
-fn line_of(rec: &StoredRecord, by_place: &[Keyed<'_>]) -> RecordLine
+fn line_of(rec: &StoredRecord, by_place: &[Keyed<'_, StoredSession>]) -> RecordLine
     requires name { IsName rec.now.name }
     requires rising { IsNonDecreasingBy (λ (k : ℕ × SessionValue). k.0) by_place.now }
     ensures { (t : TablesValue) → IsAuditedRecord t rec.now
@@ -137,7 +137,7 @@ fn line_of(rec: &StoredRecord, by_place: &[Keyed<'_>]) -> RecordLine
 }
 
 // Returns the serial of the good card in `sessions`, if there is one.
-fn good_serial(sessions: &[Keyed<'_>]) -> Option<u64>
+fn good_serial(sessions: &[Keyed<'_, StoredSession>]) -> Option<u64>
     ensures { result ≡ option_map (λ (k : ℕ × SessionValue). k.1.serial)
         (find (λ (k : ℕ × SessionValue). is_good k.1.state) sessions.now) }
 {
@@ -146,7 +146,7 @@ fn good_serial(sessions: &[Keyed<'_>]) -> Option<u64>
 }
 
 // Returns the good session in `sessions`, if there is one.
-fn good_one<'a>(sessions: &[Keyed<'a>]) -> Option<&'a StoredSession>
+fn good_one<'a>(sessions: &[Keyed<'a, StoredSession>]) -> Option<&'a StoredSession>
     ensures { option_map (λ s. s.now) result ≡ option_map (λ (k : ℕ × SessionValue). k.1)
         (find (λ (k : ℕ × SessionValue). is_good k.1.state) sessions.now) }
 {
@@ -156,7 +156,7 @@ fn good_one<'a>(sessions: &[Keyed<'a>]) -> Option<&'a StoredSession>
     }
 }
 
-fn is_good(session: &Keyed<'_>) -> bool
+fn is_good(session: &Keyed<'_, StoredSession>) -> bool
     ensures { result ≡ is_good session.now.1.state }
 {
     let row = session.row;
