@@ -1,5 +1,6 @@
 pub mod Lines
 pub mod Views
+pub mod Limits
 pub mod Lists
 pub mod Book
 pub mod Keyed

@@ -1,13 +1,15 @@
 -- The output of `shopbook list`: a line for each product, for each lot with its free, used and
--- discarded blanks, and for each batch with its account, in the order of rows.
-use Rattle.std.specs.Prelude.{ℕ, ◌-◌, Bool, true, false, List, [], ◌∷◌, ◌++◌, codes, filter, length}
+-- discarded blanks, and for each batch with its account, in the order of rows; then the limits and
+-- the size of the database file.
+use Rattle.std.specs.Prelude.{ℕ, ◌-◌, Bool, true, false, List, [], ◌∷◌, ◌++◌, codes, filter, length, Option}
 use Rattle.store_data.specs.declared.row.Product.{Product}
 use Rattle.job_facts.specs.States.{is_in}
 use Rattle.table_rows.specs.Keys.{is_record_of}
 use Rattle.table_rows.specs.Tables.{StoredBatch, StoredBlank, StoredLot, Tables}
 use Rattle.audit_laws.specs.Audited.{opened_rows}
 use Rattle.book_lines.specs.declared.form.Form.{Form}
-use Rattle.book_lines.specs.Lines.{Line, lines_by, number_cell, word_cell}
+use Rattle.book_lines.specs.Limits.{limit_line, limits_in, size_line}
+use Rattle.book_lines.specs.Lines.{Line, line_text, lines_by, number_cell, word_cell}
 
 -- ---- products
 
@@ -53,5 +55,8 @@ batch_line t b = record {
 
 -- ---- complete output
 
-abbrev pub list_text : Form → Tables → List ℕ
-list_text form t = lines_by form product_line t.products ++ lines_by form (lot_line t.blanks) t.lots ++ lines_by form (batch_line t) t.batches
+-- the complete output for a database file of `size` bytes
+abbrev pub list_text : Form → Option ℕ → Tables → List ℕ
+list_text form size t =
+    lines_by form product_line t.products ++ lines_by form (lot_line t.blanks) t.lots ++ lines_by form (batch_line t) t.batches
+    ++ lines_by form limit_line (limits_in t) ++ line_text form (size_line size)

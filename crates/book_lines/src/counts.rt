@@ -8,17 +8,12 @@ ghost use Rattle.book_lines.specs.Lines.{line_text, lines_by};
 
 use crate::cell::{name, number, word};
 use crate::form::Form;
+use crate::limits::{MOST_NAMED, MOST_PRODUCTS};
 use crate::line::push_line;
 use audit_rows::Rule;
 use std::alloc::{AllocError, Global};
 use std::marker::Model;
 use table_rows::Tables;
-
-/// The maximum number of products.
-const MOST_PRODUCTS: usize = 256;
-
-/// The maximum number of lots, and of batches.
-const MOST_NAMED: usize = 4096;
 
 /// A number with the name of what it counts.
 #[derive(Drop)]

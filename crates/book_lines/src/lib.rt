@@ -12,6 +12,7 @@ mod client;
 mod counts;
 mod form;
 mod keyed;
+mod limits;
 mod line;
 mod lists;
 mod machines;

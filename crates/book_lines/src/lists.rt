@@ -1,4 +1,5 @@
-//! The output of `shopbook list`: products, lots and batches.
+//! The output of `shopbook list`: products, lots and batches, limits, and the size of the database
+//! file.
 ghost use Rattle.std.specs.Prelude.{◌≡◌, ◌++◌, ◌+◌, ◌-◌, ◌≤◌, ◌^◌, IfOk, OnOk, All, filter, length};
 ghost use Rattle.std.specs.Prelude.{◌&&◌, nat_le, nat_lt};
 ghost use Rattle.std.specs.List.Sorted.{IsNonDecreasingBy};
@@ -12,13 +13,15 @@ ghost use Rattle.book_lines.specs.Lists.{open_or_closed, product_line, yes_or_no
 
 use crate::cell::{Cell, number, word};
 use crate::form::Form;
+use crate::limits::{push_limits, push_size};
 use crate::line::push_line;
 use audit_order::range_of;
 use std::alloc::{AllocError, Global};
 use table_rows::{StoredBatch, StoredBlank, StoredLot, StoredProduct, Tables};
 
 /// Returns the output of `shopbook list`: a line for each product, lot and batch, in the order of
-/// their rows.
+/// their rows. Lines follow with the used and the allowed numbers of products, lots and batches,
+/// and with the size of the database file in bytes, `size`, if it is known.
 ///
 /// The time is linear in the number of products, lots, batches and charged blanks, except for a
 /// binary search for each lot and each batch.
@@ -26,15 +29,22 @@ use table_rows::{StoredBatch, StoredBlank, StoredLot, StoredProduct, Tables};
 /// # Errors
 ///
 /// Returns `AllocError` if an allocation fails.
-pub fn list_text(alloc: Global, form: Form, tables: &Tables) -> Result<Vec<u8>, AllocError>
+pub fn list_text(
+    alloc: Global,
+    form: Form,
+    size: Option<u64>,
+    tables: &Tables,
+) -> Result<Vec<u8>, AllocError>
     requires ready { AreReady tables.now }
     requires sorted { AreSorted tables.now }
-    ensures { IfOk result (λ text. text.items ≡ list_text form tables.now) }
+    ensures { IfOk result (λ text. text.items ≡ list_text form size tables.now) }
 {
     let mut text = Vec::new(alloc);
     push_products(&mut text, form, &tables.products)?;
     push_lots(&mut text, form, &tables.blanks, &tables.lots)?;
     push_batches(&mut text, form, tables, &tables.batches)?;
+    push_limits(&mut text, form, tables)?;
+    push_size(&mut text, form, size)?;
     Ok(text)
 }
 
