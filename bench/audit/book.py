@@ -42,6 +42,8 @@ COLUMNS = {
     "product": ("name", "max", "low", "check"),
     "lot": ("name", "product", "first", "count", "free", "used", "discarded"),
     "batch": ("name", "product", "state", "records", "waiting", "running", "failed", "withdrawn", "good", "sessions", "spoiled"),
+    "limit": ("name", "used", "allowed"),
+    "size": ("bytes",),
     "card": ("record", "session", "machine", "serial", "state", "words", "last"),
     "machine": ("name", "running", "mark", "kept", "boot"),
     "blank": ("serial", "lot", "state", "record", "batch"),
@@ -83,6 +85,13 @@ def check_lines(conn: sqlite3.Connection, version: int, rule: str | None) -> lis
             *(("room", name, most - counts[name]) for name, most in MOST.items())]
 
 
+def list_lines(conn: sqlite3.Connection, size: int) -> list[Line]:
+    """Returns the expected lines of `list` for a file of `size` bytes."""
+    used = {name: conn.execute(f"SELECT count(*) FROM {name}").fetchone()[0] for name in MOST}
+    return [*(line for sql in (PRODUCTS, LOTS, BATCHES) for line in conn.execute(sql)),
+            *(("limit", name, used[name], most) for name, most in MOST.items()), ("size", size)]
+
+
 def blank_lines(conn: sqlite3.Connection, product: str, state: str | None) -> list[Line]:
     its = conn.execute(BLANKS, (product,)).fetchall()
     lots, total = conn.execute("SELECT count(*), coalesce(sum(amount), 0) FROM lot WHERE product = ?", (product,)).fetchone()
@@ -104,8 +113,8 @@ def machine_lines(conn: sqlite3.Connection, version: int) -> list[Line]:
     return found
 
 
-def runs(twin: pathlib.Path, version: int, rule: str | None) -> Iterator[tuple[list[str], Wanted]]:
-    """Yields the arguments of each run on a file with the same rows as `twin`, and the expected result."""
+def runs(twin: pathlib.Path, path: pathlib.Path, version: int, rule: str | None) -> Iterator[tuple[list[str], Wanted]]:
+    """Yields the arguments of each run on the file `path`, which has the same rows as `twin`, and the expected result."""
     conn = sqlite3.connect(twin)
     products = [name for name, in conn.execute("SELECT name FROM product")]
     if rule:
@@ -115,7 +124,7 @@ def runs(twin: pathlib.Path, version: int, rule: str | None) -> Iterator[tuple[l
             yield words, Wanted([], 1, "refused 82")
     else:
         yield ["check"], Wanted(check_lines(conn, version, None))
-        yield ["list"], Wanted([line for sql in (PRODUCTS, LOTS, BATCHES) for line in conn.execute(sql)])
+        yield ["list"], Wanted(list_lines(conn, path.stat().st_size))
         yield ["machines"], Wanted(machine_lines(conn, version))
         for batch in conn.execute(BATCHES).fetchall():
             yield ["cards", f"--batch={batch[1]}"], Wanted(cards := conn.execute(CARDS, (batch[1],)).fetchall())
@@ -190,7 +199,7 @@ def sound_cases(folder: pathlib.Path, count: int, seed: str) -> Iterator[Case]:
             make(twin, its, Shape(version))
             for shape, how in shapes(version).items():
                 make(path := folder / f"{made}-{version}-{shape}.db".replace(" ", "-"), its, how)
-                for words, wanted in runs(twin, version, None):
+                for words, wanted in runs(twin, path, version, None):
                     yield f"{made}, version {version}, {shape}", path, words, wanted
     for number in range(count):
         draw = random.Random(f"{seed} {number}")
@@ -199,7 +208,7 @@ def sound_cases(folder: pathlib.Path, count: int, seed: str) -> Iterator[Case]:
         shape, how = draw.choice(list(shapes(version).items()))
         make(twin, its, Shape(version))
         make(path := folder / f"drawn-{number}.db", its, how)
-        for words, wanted in runs(twin, version, None):
+        for words, wanted in runs(twin, path, version, None):
             yield f"drawn {number}, version {version}, {shape}", path, words, wanted
         path.unlink()
 
@@ -208,7 +217,7 @@ def killed_cases(persod: str, folder: pathlib.Path) -> Iterator[Case]:
     """Yields the runs on the file of a killed server, whose WAL wasn't copied into the file."""
     make_cards(persod, path := folder / "killed.db")
     copied(path, twin := folder / "killed-twin.db")
-    for words, wanted in runs(twin, 3, None):
+    for words, wanted in runs(twin, path, 3, None):
         yield "a killed server", path, words, wanted
 
 
@@ -219,7 +228,7 @@ def damaged_cases(folder: pathlib.Path) -> Iterator[Case]:
             make(twin, WORKED_ROWS, Shape(version), sql)
             for shape, how in (("", Shape(version)), (", with a WAL", with_wal(version))):
                 make(path := folder / f"damaged-{version}-{number}{'-wal' if shape else ''}.db", WORKED_ROWS, how, sql)
-                for words, wanted in runs(twin, version, rule):
+                for words, wanted in runs(twin, path, version, rule):
                     yield f"{name}, version {version}{shape}", path, words, wanted
 
 

@@ -4,9 +4,7 @@ use Rattle.text_io.specs.Written.{Writes}
 use Rattle.text_io.specs.declared.writing.WriteFailed.{WriteFailed}
 use Rattle.job_facts.specs.declared.refusal.Refusal.{Refusal}
 use Rattle.job_facts.specs.declared.refusal.Refusal.TheVariants.{BatchUnknown, ProductUnknown}
-use Rattle.table_rows.specs.Tables.{Tables}
 use Rattle.audit_rows.specs.declared.rule.Rule.{Rule}
-use Rattle.sql_tables.specs.declared.versions.Version.{Version}
 use Rattle.table_reads.specs.Holding.{number_of}
 use Rattle.subcommands.specs.declared.end.End.{End}
 use Rattle.subcommands.specs.declared.end.End.TheVariants.{Damaged, Done, Memory, NotReported, WriteFailed as Unwritten}
@@ -38,13 +36,13 @@ text_or missing (Some text) = Ok text
 text_or missing None = Err missing
 
 -- the output for sound rows, or the refusal if the batch or the product doesn't exist
-abbrev pub sound_text : Form → Version → Tables → Ask → Result (List ℕ) Refusal
-sound_text form version t Check = Ok (check_text form (number_of version) None t)
-sound_text form version t Lists = Ok (list_text form t)
-sound_text form version t (Cards batch) = text_or BatchUnknown (cards_of form t batch)
-sound_text form version t (Blanks product state) = text_or ProductUnknown (blanks_of form t product state)
-sound_text form version t Machines = Ok (machines_text form t)
-sound_text form version t (Sheet batch) = text_or BatchUnknown (sheet_of t batch)
+abbrev pub sound_text : Form → Book → Ask → Result (List ℕ) Refusal
+sound_text form book Check = Ok (check_text form (number_of book.version) None book.tables)
+sound_text form book Lists = Ok (list_text form book.size book.tables)
+sound_text form book (Cards batch) = text_or BatchUnknown (cards_of form book.tables batch)
+sound_text form book (Blanks product state) = text_or ProductUnknown (blanks_of form book.tables product state)
+sound_text form book Machines = Ok (machines_text form book.tables)
+sound_text form book (Sheet batch) = text_or BatchUnknown (sheet_of book.tables batch)
 
 abbrev pub text_or_none : Result (List ℕ) Refusal → List ℕ
 text_or_none (Ok text) = text
@@ -67,11 +65,11 @@ damaged_text form book _ rule = []
 -- ---- all rows
 
 abbrev pub text_by : Form → Book → Ask → Option Rule → List ℕ
-text_by form book ask None = text_or_none (sound_text form book.version book.tables ask)
+text_by form book ask None = text_or_none (sound_text form book ask)
 text_by form book ask (Some rule) = damaged_text form book ask rule
 
 abbrev pub end_by : Form → Book → Ask → Option Rule → End
-end_by form book ask None = end_of_text (sound_text form book.version book.tables ask)
+end_by form book ask None = end_of_text (sound_text form book ask)
 end_by form book ask (Some rule) = Damaged
 
 -- the output of the subcommand

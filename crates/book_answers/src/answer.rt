@@ -15,7 +15,6 @@ use job_facts::Refusal;
 use sql_tables::Version;
 use std::alloc::{AllocError, Global};
 use subcommands::End;
-use table_rows::Tables;
 
 /// The output of a subcommand, and the outcome of the run.
 #[derive(Drop)]
@@ -38,7 +37,7 @@ pub fn answer_to(alloc: Global, words: &BookWords, book: &Book) -> Result<Answer
 {
     let form = form_of(words.json);
     match book.failing {
-        None => sound_answer(alloc, form, book.version, &book.tables, &words.ask),
+        None => sound_answer(alloc, form, book, &words.ask),
         Some(rule) => damaged_answer(alloc, form, book, &words.ask, rule),
     }
 }
@@ -88,20 +87,20 @@ fn damaged_answer(
 fn sound_answer(
     alloc: Global,
     form: Form,
-    version: Version,
-    tables: &Tables,
+    book: &Book,
     ask: &Ask,
 ) -> Result<Answer, AllocError>
-    requires { IsBook tables.now }
-    ensures { IfOk result (Gives (sound_text form version tables.now ask.now)) }
+    requires { IsBook book.now.tables }
+    ensures { IfOk result (Gives (sound_text form book.now ask.now)) }
 {
+    let tables = &book.tables;
     match ask {
         Ask::Check => {
-            let text = check_text(alloc, form, number_of(version), None, tables)?;
+            let text = check_text(alloc, form, number_of(book.version), None, tables)?;
             Ok(done(text))
         }
         Ask::Lists => {
-            let text = list_text(alloc, form, tables)?;
+            let text = list_text(alloc, form, book.size, tables)?;
             Ok(done(text))
         }
         Ask::Cards { batch } => {

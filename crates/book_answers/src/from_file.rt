@@ -1,5 +1,5 @@
 //! Reads a database file and prints the reply to a subcommand of `shopbook`.
-ghost use Rattle.std.specs.Prelude.{◌≡◌, IfErr, IfOk};
+ghost use Rattle.std.specs.Prelude.{◌≡◌, IfErr, IfOk, IfSome, IsTrue, length};
 ghost use Rattle.book_answers.specs.Answers.{PrintsFile};
 
 use crate::printing::print_answer;
@@ -7,7 +7,7 @@ use audit_rows::Rule;
 use book_arguments::BookWords;
 use book_file::book_in;
 use over_tables::FileFault;
-use sqlite_disk::Unknown;
+use sqlite_disk::{Disk, Files, Unknown};
 use std::io::Write;
 use subcommands::End;
 
@@ -37,9 +37,31 @@ pub fn print_from_file<W: Write>(
 {
     // Dropped here, so that the types of a store are dropped in no program.
     let (read, files) = book_in(rt, words.db.as_str(), Unknown);
-    drop(files);
-    let book = read?;
+    let size = size_in(files);
+    let mut book = read?;
+    book.size = size;
     let end = print_answer(rt.alloc(), words, &book, writer);
     let failing = book.failing;
     Ok(Printed { end, failing })
+}
+
+// Closes the two files, and returns the size of the database file in bytes. Returns `None` if there
+// are no files, or if the device can't return the size.
+fn size_in<D: Disk + Drop>(files: Option<Files<D>>) -> Option<u64> {
+    let mut files = files?;
+    size_of(&mut files.db)
+}
+
+// Returns the size of `file` in bytes, if the device returns it.
+fn size_of<D: Disk>(file: &mut D) -> Option<u64>
+    ensures { IfSome result
+        (λ size. IsTrue (D.Disk.is_clean file.new) → size ≡ length (D.Disk.seen file.old)) }
+{
+    if !file.may_be_used() {
+        return None;
+    }
+    match file.len() {
+        Ok(len) => Some(len as u64),
+        Err(_) => None,
+    }
 }

@@ -12,4 +12,6 @@ pub struct Book {
     pub failing: Option<Rule>,
     /// The rows of all tables, sorted.
     pub tables: Tables,
+    /// The size of the database file in bytes, if it is known.
+    pub size: Option<u64>,
 }

@@ -39,6 +39,7 @@ fn judged(alloc: Global, version: Version, mut tables: Tables) -> Result<Book, E
         version,
         failing,
         tables,
+        size: None,
     })
 }
 
