@@ -66,7 +66,7 @@ apart_numbers = ((refl, (refl, (refl, (refl, (refl, (refl, (refl, (refl, (refl, 
 
 own_keys : AllByRecursion is_no_further_key our_schema.indexes
 unfolding same_name
-own_keys = (refl, (refl, (refl, (refl, (refl, (refl, (refl, (refl, (refl, (refl, (refl, (refl, (refl, (refl, (refl, (refl, tt))))))))))))))))
+own_keys = (refl, (refl, (refl, (refl, (refl, (refl, (refl, (refl, (refl, (refl, (refl, (refl, (refl, (refl, (refl, (refl, (refl, tt)))))))))))))))))
 
 no_further_key : HasNoFurtherKey our_schema.indexes
 unfolding HasNoFurtherKey
