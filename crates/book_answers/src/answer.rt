@@ -84,12 +84,7 @@ fn damaged_answer(
 }
 
 // Returns the answer for a database with sound rows.
-fn sound_answer(
-    alloc: Global,
-    form: Form,
-    book: &Book,
-    ask: &Ask,
-) -> Result<Answer, AllocError>
+fn sound_answer(alloc: Global, form: Form, book: &Book, ask: &Ask) -> Result<Answer, AllocError>
     requires { IsBook book.now.tables }
     ensures { IfOk result (Gives (sound_text form book.now ask.now)) }
 {

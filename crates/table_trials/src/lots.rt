@@ -9,6 +9,7 @@ use std::test::Fail;
 
 // The number of lots, and of the blanks in each lot.
 const LOTS: u32 = 100;
+
 const BLANKS: u32 = 10;
 
 // The number of rows that a statement may visit.
@@ -40,7 +41,12 @@ fn lot_is_found_in_few_steps(rt: HostRuntime) -> Result<(), Fail> {
     add_lots(rt.alloc(), &mut conn)?;
     assert!(rt; conn.is_autocommit());
     conn.set_step_limit(Some(MOST_STEPS));
-    for (blank, first) in [(0, Some(0)), (509, Some(500)), (999, Some(990)), (1_000, None)] {
+    for (blank, first) in [
+        (0, Some(0)),
+        (509, Some(500)),
+        (999, Some(990)),
+        (1_000, None),
+    ] {
         let found = lot_of(&mut conn, blank)?;
         assert!(rt; found.map(|lot| lot.first) == first);
     }
