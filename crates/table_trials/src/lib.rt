@@ -31,7 +31,3 @@ mod places;
 mod stops;
 #[cfg(test)]
 mod versions;
-
-// The steps of a statement.
-#[cfg(test)]
-mod lots;
