@@ -3,9 +3,9 @@
 
     bench/run runs
 
-`./test` runs this script with the programs that it has just proved and built. It takes a few seconds. The parts are: arguments, runs on the standard
-streams, outputs that can't be written, files that are refused, a machine with a simulated server, a server over a socket whose files are then
-reported and read, a killed server, and files of each schema version. Exit status: 1 if a check fails."""
+`./test` runs this script with the programs that it has just proved and built. It takes a few seconds. The parts are: arguments, inputs that
+can't be read, outputs that can't be written, runs on the standard streams, files that are refused, a machine with a simulated server, a server
+over a socket whose files are then reported and read, a killed server, and files of each schema version. Exit status: 1 if a check fails."""
 import os
 import pathlib
 import shutil
@@ -64,6 +64,9 @@ RUNS = [
     Run("plan --check --low 7", LONG, 0, DEFAULT_PLAN.replace("80E280", "80E287")),
     Run("plan", LONG, 0, DEFAULT_PLAN),
     Run("drill", RESET, 0, '200 {"result":"reset","session":0}\n'),
+    # The last line needs no LF.
+    Run("drill", RESET.removesuffix("\n"), 0, '200 {"result":"reset","session":0}\n'),
+    Run("drill", "import 3 B1 P1\n.", 0, '409 {"code":52,"refused":"product-unknown"}\n'),
     Run("drill", "office\n", 1, errors="bad line 1\n"),
     Run("drill", "get /batch/B1\noffice\n", 1, '409 {"code":56,"refused":"batch-unknown"}\n', "bad line 2\n"),
     Run("--version", "", 0, "persod 1.0.0\n"),
@@ -115,6 +118,15 @@ def streams(folder: pathlib.Path) -> None:
         ran = subprocess.run([PERSOD, *its.words.split()], input=its.typed, capture_output=True, text=True, env=environment(""), cwd=folder)
         expect(f"persod {its.words}", (ran.returncode, ran.stdout, ran.stderr), its[2:])
     expect("the files", list(folder.iterdir()), [])
+
+
+def inputs() -> None:
+    """Tries an input that can't be read: a folder."""
+    for words in ("plan", "drill", "feed --port 1 --machine m1 --boot 1 --batch B1"):
+        folder = os.open("/", os.O_RDONLY)
+        ran = subprocess.run([PERSOD, *words.split()], stdin=folder, capture_output=True, text=True, env=environment(""))
+        expect(f"persod {words} of a folder", (ran.returncode, ran.stdout, ran.stderr), (3, "", "device\n"))
+        os.close(folder)
 
 
 def outputs() -> None:
@@ -335,6 +347,7 @@ def books(folder: pathlib.Path) -> None:
 def main() -> None:
     parts = [streams, causes, served, levels, killed, books]
     words()
+    inputs()
     outputs()
     feeds()
     for part in parts:
@@ -343,7 +356,7 @@ def main() -> None:
             part(folder)
         finally:
             shutil.rmtree(folder)
-    print(f"{len(RUNS)} runs, {len(parts) + 3} parts, 0 faults")
+    print(f"{len(RUNS)} runs, {len(parts) + 4} parts, 0 faults")
 
 
 if __name__ == "__main__":
