@@ -3,8 +3,8 @@
 #
 #     bench/run refused [TEXT]
 #
-# TEXT selects the tests whose names contain it: `memory::` selects those of single calls and of connections, `refused::` those over both
-# stores. Requires cc. The script runs most tests of `trials` and `table_trials`, and the tests in `socket_trials::memory`.
+# TEXT selects the tests whose names contain it: `refused::` selects those over both stores, and `memory::` those of connections over sockets.
+# Requires cc. The script runs most tests of `trials` and `table_trials`, and the tests in `socket_trials::memory`.
 #
 # An allocation fails in a child of the test, which then runs to its end. If a test makes more than 100,000 allocations, about 2,000 of them
 # are selected, evenly spread. In `socket_trials::memory` first only this allocation fails, and then also all later ones. A test with files in

@@ -1,45 +1,16 @@
 //! Repeats calls that run out of memory. A test therefore has the same result if any single
 //! allocation fails, even one of its set-up. `bench/run refused` makes each allocation fail in
 //! turn.
-use batch_import::ImportFault;
-use dgi::DgiFault;
 use drill::DrillStop;
-use feeding::FeedStop;
 use job_facts::StoreFault;
 use plan_print::PlanStop;
 use reports::AccountFault;
 use server::NextFault;
-use std::alloc::AllocError;
-use store_data::PlanFault;
 use wire::AskFault;
 
 /// A fault that can be out of memory.
 pub(crate) trait MayBeOutOfMemory {
     fn is_memory(&self) -> bool;
-}
-
-impl MayBeOutOfMemory for AllocError {
-    fn is_memory(&self) -> bool {
-        true
-    }
-}
-
-impl MayBeOutOfMemory for DgiFault {
-    fn is_memory(&self) -> bool {
-        *self == DgiFault::Memory
-    }
-}
-
-impl MayBeOutOfMemory for PlanFault {
-    fn is_memory(&self) -> bool {
-        *self == PlanFault::Memory
-    }
-}
-
-impl MayBeOutOfMemory for ImportFault {
-    fn is_memory(&self) -> bool {
-        *self == ImportFault::Memory
-    }
 }
 
 impl MayBeOutOfMemory for StoreFault {
@@ -69,12 +40,6 @@ impl MayBeOutOfMemory for NextFault {
 impl MayBeOutOfMemory for DrillStop {
     fn is_memory(&self) -> bool {
         *self == DrillStop::Memory
-    }
-}
-
-impl MayBeOutOfMemory for FeedStop {
-    fn is_memory(&self) -> bool {
-        *self == FeedStop::Memory
     }
 }
 

@@ -1,4 +1,4 @@
-//! Products, and batch files with their printed plans.
+//! A product, and a batch file with its printed plan.
 ghost use Rattle.std.specs.Prelude.{◌≤◌, IfOk};
 ghost use Rattle.store_data.specs.Sequence.{IsProduct};
 
@@ -13,15 +13,6 @@ pub(crate) const FILE: &[u8] =
 /// The printed plan of `FILE`.
 pub(crate) const PRINTED: &str =
     "record R2\n00A4040006F00000000101\n80E26000058000020102\n80E28001050102027000\nrecord R1\n00A4040006F00000000101\n80E28000050101027000\n";
-
-/// A batch file with one record of two applications. The first application has an encrypted segment
-/// before a plain one.
-pub(crate) const TWO_APPLICATIONS: &[u8] =
-    b"record,aid,rank,enc,tol,dgi\nR2,F0000000020202,2,0,0,0201027000\nR2,F00000000101,1,0,0,0101027000\nR2,F0000000020202,1,1,0,8000081122334455667788\n";
-
-/// The printed plan of `TWO_APPLICATIONS`.
-pub(crate) const TWO_PRINTED: &str =
-    "record R2\n00A4040007F0000000020202\n80E260000B8000081122334455667788\n80E28001050201027000\n00A4040006F00000000101\n80E28000050101027000\n";
 
 /// Returns a product with these settings.
 pub(crate) fn product(max: u8, low: u8, check: bool) -> Result<Product, Fail>

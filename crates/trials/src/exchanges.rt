@@ -1,17 +1,10 @@
-//! Helpers of tests: names, a store of lists with some contents, and connections to it. They repeat
-//! calls that run out of memory.
-ghost use Rattle.std.specs.Prelude.{IfOk};
-ghost use Rattle.wire.specs.Asks.{IsInRange};
-
+//! Helpers of tests: names, a store of lists with some contents, and the inputs of connections.
 use crate::again::{MayBeOutOfMemory, at_last};
-use crate::failing_writers::Limited;
 use job_facts::{Change, JobStore, Lot, NewBatch};
 use list_store::ListStore;
-use server::{End, Served, serve_one};
 use std::alloc::{AllocError, Global};
 use std::test::Fail;
 use store_data::{Name, Product};
-use wire::{AskFault, Asked, FixedReply, Pieces, Reading, read_message, to_ask};
 
 /// The response if the store or an allocation fails.
 pub(crate) const UNAVAILABLE: &[u8] =
@@ -76,35 +69,4 @@ pub(crate) fn inputs(alloc: Global, texts: &[&[u8]]) -> Result<Vec<Vec<u8>>, All
         inputs.push(text.to_vec(alloc)?)?;
     }
     Ok(inputs)
-}
-
-/// Parses the request in `bytes`, which are read in pieces of 7 bytes.
-pub(crate) fn asked(alloc: Global, bytes: &[u8]) -> Result<Asked, AskFault>
-    ensures { IfOk result IsInRange }
-{
-    match read_message(alloc, &mut Pieces::new(bytes, 7)) {
-        Reading::Message(message) => to_ask(alloc, message),
-        Reading::Broken => Err(AskFault::Refused(FixedReply::Malformed)),
-        Reading::Refused(why) => Err(AskFault::Refused(why)),
-        Reading::Memory => Err(AskFault::Memory),
-    }
-}
-
-/// Serves a connection with the message `bytes`, and returns its end and its writer. The message is
-/// sent again if an allocation fails, even if the writer has no space left to report this.
-pub(crate) fn served(
-    alloc: Global,
-    store: &mut ListStore,
-    bytes: &[u8],
-    writer: Limited,
-) -> (Served, Limited) {
-    let mut first = writer;
-    let served = serve_one(alloc, store, &mut Pieces::new(bytes, 8192), &mut first);
-    let is_cut = served.end == End::WriteFailed && !served.decided;
-    if !is_cut && !first.taken().starts_with(b"HTTP/1.1 503 ") {
-        return (served, first);
-    }
-    let mut second = writer;
-    let served = serve_one(alloc, store, &mut Pieces::new(bytes, 8192), &mut second);
-    (served, second)
 }

@@ -1,24 +1,5 @@
-//! Readers that fail, and a reader that counts its calls.
-use std::io::{self, ErrorKind, Read};
+//! A source of bytes that fails, and a source that counts its calls.
 use wire::{ByteSource, Pieces};
-
-/// A reader that returns one byte per call, and fails after the last byte.
-#[derive(Drop)]
-pub(crate) struct Broken<'a>(pub(crate) &'a [u8]);
-
-impl Read for Broken<'_> {
-    fn read(&mut self, buf: &mut [u8]) -> io::Result<usize> {
-        let Some(byte) = self.0.first() else {
-            return Err(io::Error::from(ErrorKind::ConnectionReset));
-        };
-        if buf.is_empty() {
-            return Ok(0);
-        }
-        buf[0] = *byte;
-        self.0 = &self.0[1..];
-        Ok(1)
-    }
-}
 
 /// A source of bytes with a read that fails once. Later reads would return the remaining bytes.
 #[derive(Drop)]

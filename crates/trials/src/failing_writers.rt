@@ -21,11 +21,6 @@ impl Limited {
         }
     }
 
-    /// Returns the capacity for which the writer was created.
-    pub(crate) fn room(&self) -> usize {
-        self.most
-    }
-
     /// Returns the bytes that were written.
     pub(crate) fn taken(&self) -> &[u8] {
         self.bytes.get(..self.taken).unwrap_or(&[])

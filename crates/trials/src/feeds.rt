@@ -1,16 +1,12 @@
-//! Tests of feeds over replies in memory: readers and writers that fail, and messages that aren't
-//! replies to a machine.
-use crate::again::{MayBeOutOfMemory, at_last};
+//! Tests of the event lines of feeds over replies in memory.
 use crate::exchanges::name;
-use crate::failing_readers::Broken;
 use crate::failing_writers::Limited;
-use feeding::{Exchange, FeedStop, feed_engine};
+use event_lines::{EventLog, Level};
+use feeding::{Exchange, FeedStop, feed_with_events};
 use std::alloc::{AllocError, Global};
 use std::process::Abort;
 use std::test::Fail;
 use store_data::Name;
-
-mod events;
 
 /// A response with a reply to a machine: its status, and the length and the text of its JSON.
 macro_rules! reply {
@@ -26,50 +22,25 @@ macro_rules! reply {
     };
 }
 
-pub(crate) use reply;
-
 const RELEASED: &str = reply!("200 OK", 37, r#"{"mark":10000000,"result":"released"}"#);
 
 const RESET: &str = reply!("200 OK", 30, r#"{"result":"reset","session":0}"#);
 
-/// The reply to an `open` request, with the first command.
-pub(crate) const OPENED: &str = reply!(
+// The reply to an `open` request, with the first command.
+const OPENED: &str = reply!(
     "200 OK",
     117,
     r#"{"batch":"B1","blank":1000,"command":"00A4040006F00000000101","index":0,"record":"R1","result":"command","session":1}"#
 );
 
-const NEXT: &str = reply!(
-    "200 OK",
-    75,
-    r#"{"command":"80E28000050101027000","index":1,"result":"command","session":1}"#
-);
+const SPOILED: &str = reply!("200 OK", 32, r#"{"result":"spoiled","session":1}"#);
 
-const GOOD: &str = reply!("200 OK", 29, r#"{"result":"good","session":1}"#);
+const BLANK_USED: &str = reply!("409 Conflict", 34, r#"{"code":60,"refused":"blank-used"}"#);
 
-// The replies to a machine with boot number 1 that makes one card of two commands.
-const REPLIES: [&str; 5] = [RELEASED, RESET, OPENED, NEXT, GOOD];
-
-const PRINTED: &[u8] =
-    b"1000 00A4040006F00000000101 9000\n1000 80E28000050101027000 9000\n1000 good\n";
-
-// Replies with a session or an index that no `answer` request can have.
-const LEAST_SESSION: &str = reply!(
-    "200 OK",
-    117,
-    r#"{"batch":"B1","blank":1000,"command":"00A4040006F00000000101","index":0,"record":"R1","result":"command","session":0}"#
-);
-
-const MOST_SESSION: &str = reply!(
-    "200 OK",
-    135,
-    r#"{"batch":"B1","blank":1000,"command":"00A4040006F00000000101","index":0,"record":"R1","result":"command","session":1000000000000000000}"#
-);
-
-const MOST_INDEX: &str = reply!(
-    "200 OK",
-    84,
-    r#"{"command":"80E28000050101027000","index":4294967296,"result":"command","session":1}"#
+const NUMBER_REUSED: &str = reply!(
+    "409 Conflict",
+    37,
+    r#"{"code":72,"refused":"number-reused"}"#
 );
 
 const STORAGE: &str = reply!(
@@ -78,14 +49,14 @@ const STORAGE: &str = reply!(
     r#"{"code":503,"refused":"storage"}"#
 );
 
-const MALFORMED: &str = reply!(
-    "400 Bad Request",
-    34,
-    r#"{"code":400,"refused":"malformed"}"#
-);
+// A connection that ends without a response.
+const NOTHING: &str = "";
 
-// An input line with one card.
-const CARD: &[u8] = b"1000\n";
+// A body without a head, which could contain card data.
+const BODY: &str = "{\"command\":\"80E28000050101027000\"}";
+
+// The maximum number of bytes of event lines in a test.
+const ROOM: usize = 512;
 
 // An exchange that returns these replies, one per request, and then none.
 #[derive(Drop)]
@@ -110,124 +81,149 @@ impl Exchange for Replies<'_> {
     }
 }
 
-// Returns the result of feeding one card with these replies. The writer has room for `room` bytes
-// and accepts one byte per call. Unless an allocation fails, exactly the first `room` bytes are
-// written.
-fn feed_of_limited(
+// A feed with the input `list` and these replies, followed by none, and its expected result.
+#[derive(Drop)]
+struct Case {
+    list: &'static [u8],
+    replies: &'static [&'static str],
+    end: Result<(), FeedStop>,
+    printed: &'static [u8],
+    events: &'static [u8],
+}
+
+// The result of a feed, with its output and its event lines.
+#[derive(Drop)]
+struct Fed {
+    end: Result<(), FeedStop>,
+    printed: Limited,
+    events: Limited,
+}
+
+// Runs a feed with boot number 1. The writer of event lines has room for `room` bytes. Both writers
+// accept one byte per call.
+fn run(alloc: Global, machine: Name, case: &Case, level: Level, room: usize) -> Fed {
+    let (replies, asked) = (case.replies, 0);
+    let mut exchange = Replies {
+        alloc,
+        replies,
+        asked,
+    };
+    let mut list = case.list;
+    let mut printed = Limited::new(512, 1);
+    let mut log = EventLog::new(level, Limited::new(room, 1));
+    let end = feed_with_events(
+        alloc,
+        machine,
+        1,
+        machine,
+        &mut list,
+        &mut printed,
+        &mut exchange,
+        &mut log,
+    );
+    let events = log.writer;
+    Fed {
+        end,
+        printed,
+        events,
+    }
+}
+
+// Checks the result, the output and the event lines of a feed. If an allocation fails, the feed
+// stops or leaves out a line. A second run must then be complete.
+fn check_at(
     rt: &impl Abort,
-    alloc: Global,
     machine: Name,
-    replies: &[&str],
+    alloc: Global,
+    case: &Case,
+    level: Level,
     room: usize,
-) -> Result<(), FeedStop> {
-    let asked = 0;
-    let mut exchange = Replies {
-        alloc,
-        replies,
-        asked,
-    };
-    let mut input = CARD;
-    let mut writer = Limited::new(room, 1);
-    let end = feed_engine(
-        alloc,
-        machine,
-        1,
-        machine,
-        &mut input,
-        &mut writer,
-        &mut exchange,
-    );
-    if end != Err(FeedStop::Memory) {
-        let wanted = PRINTED.get(..room);
-        assert_eq!(rt; Some(writer.taken()), wanted, "at {room}");
+    events: &[u8],
+) {
+    let mut feed = run(alloc, machine, case, level, room);
+    if feed.end != Err(FeedStop::Memory) {
+        assert_eq!(rt; feed.end, case.end, "at {level:?}");
+        assert_eq!(rt; feed.printed.taken(), case.printed, "at {level:?}");
     }
-    end
-}
-
-#[test]
-fn a_feed_has_its_beginning_where_a_writer_fails(rt: HostRuntime) -> Result<(), Fail> {
-    let (alloc, machine) = (rt.alloc(), name("m1")?);
-    for room in 0..PRINTED.len() {
-        let end = at_last!(feed_of_limited(&rt, alloc, machine, &REPLIES, room));
-        assert_eq!(rt; end, Err(FeedStop::WriteFailed), "at {room}");
+    if feed.end != case.end || feed.events.taken() != events {
+        feed = run(alloc, machine, case, level, room);
     }
-    let end = at_last!(feed_of_limited(&rt, alloc, machine, &REPLIES, PRINTED.len()));
-    assert_eq!(rt; end, Ok(()));
-    Ok(())
+    assert_eq!(rt; feed.end, case.end, "at {level:?}");
+    assert_eq!(rt; feed.printed.taken(), case.printed, "at {level:?}");
+    assert_eq!(rt; feed.events.taken(), events, "at {level:?}");
 }
 
-#[test]
-fn a_storage_fault_and_a_malformed_message_are_no_replies(rt: HostRuntime) -> Result<(), Fail> {
-    let (alloc, machine) = (rt.alloc(), name("m1")?);
-    let [released, reset, open, answer, good] = REPLIES;
-    let replies = [
-        STORAGE, released, MALFORMED, reset, STORAGE, open, STORAGE, answer, MALFORMED, good,
-    ];
-    let end = at_last!(feed_of_limited(&rt, alloc, machine, &replies, PRINTED.len()));
-    assert_eq!(rt; end, Ok(()));
-    for count in [10, 11] {
-        let replies = [STORAGE; 11];
-        let end = at_last!(feed_of_limited(&rt, alloc, machine, &replies[..count], 0));
-        assert_eq!(rt; end, Err(FeedStop::NoReply));
+// Checks a case at each level. At level `Off` no line is written.
+fn check(rt: &impl Abort, alloc: Global, machine: Name, case: &Case) {
+    for (level, events) in [
+        (Level::Usual, case.events),
+        (Level::All, case.events),
+        (Level::Off, b"".as_slice()),
+    ] {
+        check_at(rt, machine, alloc, case, level, ROOM, events);
     }
-    Ok(())
 }
 
-#[test]
-fn a_reply_out_of_range_is_none(rt: HostRuntime) -> Result<(), Fail> {
-    let (alloc, machine) = (rt.alloc(), name("m1")?);
-    let [released, reset, open, answer, good] = REPLIES;
-    let replies = [
-        released,
-        reset,
-        LEAST_SESSION,
-        MOST_SESSION,
-        open,
-        MOST_INDEX,
-        answer,
-        good,
-    ];
-    let end = at_last!(feed_of_limited(&rt, alloc, machine, &replies, PRINTED.len()));
-    assert_eq!(rt; end, Ok(()));
-    Ok(())
-}
-
-// Returns the result of a feed whose reader fails after `front`. No request is sent, and nothing is
-// written.
-fn feed_of_broken(
-    rt: &impl Abort,
-    alloc: Global,
-    machine: Name,
-    front: &[u8],
-) -> Result<(), FeedStop> {
-    let (replies, asked) = (REPLIES.as_slice(), 0);
-    let mut exchange = Replies {
-        alloc,
-        replies,
-        asked,
-    };
-    let mut writer = Limited::new(512, 512);
-    let mut reader = Broken(front);
-    let end = feed_engine(
-        alloc,
-        machine,
-        1,
-        machine,
-        &mut reader,
-        &mut writer,
-        &mut exchange,
-    );
-    assert_eq!(rt; exchange.asked, 0);
-    assert_eq!(rt; writer.taken(), b"".as_slice());
-    end
-}
-
-#[test]
-fn nothing_is_asked_where_a_reader_fails(rt: HostRuntime) -> Result<(), Fail> {
+fn check_each(rt: &impl Abort, alloc: Global, cases: &[Case]) -> Result<(), Fail> {
     let machine = name("m1")?;
-    for size in 0..=CARD.len() {
-        let end = at_last!(feed_of_broken(&rt, rt.alloc(), machine, &CARD[..size]));
-        assert_eq!(rt; end, Err(FeedStop::ReadFailed), "at {size}");
+    for case in cases {
+        check(rt, alloc, machine, case);
     }
+    Ok(())
+}
+
+// Each response that isn't a reply to the pending request has an event line, as have each rejected
+// card and the malformed line that ends a feed.
+#[test]
+fn each_kind_of_event_line_is_written(rt: HostRuntime) -> Result<(), Fail> {
+    let cases = [
+        Case {
+            list: b"",
+            replies: &[STORAGE, NOTHING, BODY, RELEASED, RESET],
+            end: Ok(()),
+            printed: b"",
+            events: b"again number=10000001 tries=1 reply=\"HTTP/1.1 503 Service Unavailable\"\nagain number=10000001 tries=2\nagain number=10000001 tries=3 bytes=34\n",
+        },
+        Case {
+            list: b"1000 6A80\n",
+            replies: &[RELEASED, RESET, OPENED, SPOILED],
+            end: Ok(()),
+            printed: b"1000 00A4040006F00000000101 6A80\n1000 rejected\n",
+            events: b"rejected serial=1000 number=10000004 cause=spoiled\n",
+        },
+        Case {
+            list: b"1000\n1001\nx",
+            replies: &[RELEASED, RESET, BLANK_USED, NUMBER_REUSED],
+            end: Err(FeedStop::BadLine),
+            printed: b"1000 rejected\n1001 rejected\n",
+            events: b"rejected serial=1000 number=10000003 code=60 name=blank-used\nrejected serial=1001 number=10000004 code=72 name=number-reused\nboot-used number=10000004\nbad-line line=3 cause=serial\n",
+        },
+    ];
+    check_each(&rt, rt.alloc(), &cases)
+}
+
+// If the writer of event lines fails, it has a prefix of them, and the feed continues.
+#[test]
+fn failed_event_lines_do_not_end_a_feed(rt: HostRuntime) -> Result<(), Fail> {
+    let (alloc, machine) = (rt.alloc(), name("m1")?);
+    let case = Case {
+        list: b"1000\n1001",
+        replies: &[STORAGE, RELEASED, RESET, NUMBER_REUSED, BLANK_USED],
+        end: Ok(()),
+        printed: b"1000 rejected\n1001 rejected\n",
+        events: b"again number=10000001 tries=1 reply=\"HTTP/1.1 503 Service Unavailable\"\nrejected serial=1000 number=10000003 code=72 name=number-reused\nboot-used number=10000003\nrejected serial=1001 number=10000004 code=60 name=blank-used\n",
+    };
+    for (room, _) in case.events.iter().enumerate() {
+        check_at(
+            &rt,
+            machine,
+            alloc,
+            &case,
+            Level::Usual,
+            room,
+            &case.events[..room],
+        );
+    }
+    check(&rt, alloc, machine, &case);
     Ok(())
 }

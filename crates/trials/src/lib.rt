@@ -1,5 +1,4 @@
-//! Tests that no example file can express: readers and writers that fail, failed allocations, and
-//! event lines.
+//! Tests that no example file can express: failing readers and writers, and event lines.
 #![tactic(auto)]
 
 #[cfg(test)]
@@ -15,14 +14,8 @@ mod failing_writers;
 #[cfg(test)]
 mod feeds;
 #[cfg(test)]
-mod memory;
-#[cfg(test)]
-mod numbers;
-#[cfg(test)]
 mod readers;
 #[cfg(test)]
 mod servers;
-#[cfg(test)]
-mod serving;
 #[cfg(test)]
 mod writers;

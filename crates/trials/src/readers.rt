@@ -1,27 +1,21 @@
-//! Tests of readers that fail, and of the number of reads.
-ghost use Rattle.store_data.specs.Sequence.{IsProduct};
-
+//! Tests of reads that fail, and of the number of reads.
 use crate::again::{MayBeOutOfMemory, at_last};
-use crate::batches::{FILE, product};
 use crate::exchanges::{UNAVAILABLE, inputs, name};
-use crate::failing_readers::{Broken, Counted, Failing};
+use crate::failing_readers::{Counted, Failing};
 use crate::failing_writers::Limited;
-use drill::{DrillStop, drill_over_lists, serve_inputs};
+use drill::serve_inputs;
 use job_facts::JobStore;
 use list_store::ListStore;
-use plan_print::{PlanStop, plan_engine};
 use server::{Connections, End, NextFault, Served, serve_one};
 use std::alloc::Global;
-use std::process::Abort;
 use std::test::Fail;
-use store_data::Product;
 use wire::{AskFault, ByteSource, Reading, read_message};
 
 // A `product` request of the worked examples, with a head of 66 bytes and a body of 63 bytes.
 const PRODUCT: &[u8] =
     b"POST /c/office/1 HTTP/1.1\r\nHost: localhost\r\nContent-Length: 63\r\n\r\n{\"do\":\"product\",\"product\":\"P1\",\"max\":255,\"low\":0,\"check\":false}";
 
-// Returns the number of reads for `PRODUCT`, which comes in pieces of at most `most` bytes.
+// Returns the number of reads for `PRODUCT`, which arrives in pieces of at most `most` bytes.
 fn asked(alloc: Global, most: usize) -> Result<usize, AskFault> {
     let mut incoming = Counted::new(PRODUCT, most);
     match read_message(alloc, &mut incoming) {
@@ -32,7 +26,7 @@ fn asked(alloc: Global, most: usize) -> Result<usize, AskFault> {
 }
 
 #[test]
-fn nothing_is_read_behind_a_message(rt: HostRuntime) -> Result<(), Fail> {
+fn no_byte_after_a_message_is_read(rt: HostRuntime) -> Result<(), Fail> {
     let table = [
         (1, 129),
         (2, 65),
@@ -58,27 +52,6 @@ fn nothing_is_read_behind_a_message(rt: HostRuntime) -> Result<(), Fail> {
     Ok(())
 }
 
-// Returns `true` if the message is broken by a read that fails after `size` bytes.
-fn is_broken(alloc: Global, size: usize) -> Result<bool, AskFault> {
-    let (front, others) = PRODUCT.split_at_checked(size).unwrap_or((PRODUCT, b""));
-    match read_message(alloc, &mut Failing::new(front, others, 5)) {
-        Reading::Broken => Ok(true),
-        Reading::Memory => Err(AskFault::Memory),
-        _ => Ok(false),
-    }
-}
-
-#[test]
-fn a_failed_read_is_the_end(rt: HostRuntime) {
-    for size in 0..PRODUCT.len() {
-        assert_eq!(rt;
-            at_last!(is_broken(rt.alloc(), size)),
-            Ok(true),
-            "at {size}"
-        );
-    }
-}
-
 // Serves a connection whose read fails after `size` bytes.
 fn served_in_part(alloc: Global, store: &mut ListStore, size: usize) -> (Served, Limited) {
     let (front, others) = PRODUCT.split_at_checked(size).unwrap_or((PRODUCT, b""));
@@ -92,9 +65,10 @@ fn served_in_part(alloc: Global, store: &mut ListStore, size: usize) -> (Served,
     (served, writer)
 }
 
-// Nothing is written, and neither the product nor a reply is stored.
+// A later read would return the remaining bytes. Nothing is written, and neither the product nor a
+// reply is stored.
 #[test]
-fn a_message_whose_read_fails_does_nothing(rt: HostRuntime) -> Result<(), Fail> {
+fn a_message_with_a_failed_read_changes_nothing(rt: HostRuntime) -> Result<(), Fail> {
     let (alloc, office, code) = (rt.alloc(), name("office")?, name("P1")?);
     let mut store = ListStore::new(alloc);
     for size in 0..PRODUCT.len() {
@@ -111,60 +85,17 @@ fn a_message_whose_read_fails_does_nothing(rt: HostRuntime) -> Result<(), Fail> 
     Ok(())
 }
 
-// Returns the result of planning from a reader that fails after `front`. Nothing is written.
-fn plan_of_broken(
-    rt: &impl Abort,
-    alloc: Global,
-    product: &Product,
-    front: &[u8],
-) -> Result<(), PlanStop>
-    requires { IsProduct product.now }
-{
-    let mut writer = Limited::new(512, 512);
-    let end = plan_engine(alloc, product, &mut Broken(front), &mut writer);
-    assert!(rt; writer.taken().is_empty());
-    end
-}
-
-#[test]
-fn a_plan_whose_reader_fails_prints_nothing(rt: HostRuntime) -> Result<(), Fail> {
-    let product = product(255, 0, false)?;
-    for size in 0..FILE.len() {
-        let end = at_last!(plan_of_broken(&rt, rt.alloc(), &product, &FILE[..size]));
-        assert_eq!(rt; end, Err(PlanStop::ReadFailed), "at {size}");
-    }
-    Ok(())
-}
-
-const SCRIPT: &[u8] =
-    b"office 1 {\"do\":\"product\",\"product\":\"P1\",\"max\":255,\"low\":0,\"check\":false}\nimport 2 B1 P1\nrecord,aid,rank,enc,tol,dgi\n.\n";
-
-// Returns the result of a drill from a reader that fails after `front`. Nothing is written.
-fn drill_of_broken(rt: &impl Abort, alloc: Global, front: &[u8]) -> Result<(), DrillStop> {
-    let mut writer = Limited::new(512, 512);
-    let end = drill_over_lists(alloc, &mut Broken(front), &mut writer);
-    assert!(rt; writer.taken().is_empty());
-    end
-}
-
-#[test]
-fn a_drill_whose_reader_fails_prints_nothing(rt: HostRuntime) {
-    for size in 0..SCRIPT.len() {
-        let end = at_last!(drill_of_broken(&rt, rt.alloc(), &SCRIPT[..size]));
-        assert_eq!(rt; end, Err(DrillStop::ReadFailed), "at {size}");
-    }
-}
-
-// Returns the size of the first piece of an input that comes in pieces of at most `most` bytes.
+// Serves an input, and returns the size of the first piece of the next one. Inputs arrive in pieces
+// of at most `most` bytes.
 fn first_piece(alloc: Global, most: usize) -> Result<usize, NextFault> {
-    let inputs = inputs(alloc, &[b"GET /batch/B9"])?;
-    let (_, mut connections) = serve_inputs(alloc, inputs, most, 0)?;
+    let inputs = inputs(alloc, &[b"GET /batch/B9", b"GET /batch/B9"])?;
+    let (_, mut connections) = serve_inputs(alloc, inputs, most, 1)?;
     let (mut reader, _) = connections.next()?;
     Ok(reader.bring(&mut [0; 20]))
 }
 
 #[test]
-fn inputs_come_in_pieces(rt: HostRuntime) {
+fn inputs_arrive_in_pieces(rt: HostRuntime) {
     for (most, count) in [(0, 1), (1, 1), (5, 5), (13, 13), (100, 13)] {
         assert_eq!(rt; at_last!(first_piece(rt.alloc(), most)), Ok(count));
     }

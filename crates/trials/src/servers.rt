@@ -28,11 +28,11 @@ const MALFORMED: &[u8] = b"POST /c/office/01 HTTP/1.1\r\n\r\n";
 
 const NO_BATCH: &[u8] = b"GET /batch/B9 HTTP/1.1\r\nHost: localhost\r\n\r\n";
 
-// A head without its end.
-const BROKEN: &[u8] = b"GET /batch/B9 HTTP/1.1\r\nHost: localhost\r\n";
+// A request line without its end.
+const BROKEN: &[u8] = b"GET /batch/B9 HTTP/1.1";
 
 // A product, its repeat, its request number for a different request, an invalid number, a batch
-// that doesn't exist, and an incomplete head.
+// that doesn't exist, and an incomplete request line.
 const ALL_KINDS: [&[u8]; 6] = [PRODUCT, PRODUCT, REUSED, MALFORMED, NO_BATCH, BROKEN];
 
 const NEW: Opened<'static> = Opened {
@@ -130,21 +130,21 @@ fn planned(
 
 // At level `Usual` an accepted request has no line. At level `Off` there are no lines.
 #[test]
-fn connections_have_lines_by_the_level(rt: HostRuntime) -> Result<(), Fail> {
+fn the_level_selects_event_lines(rt: HostRuntime) -> Result<(), Fail> {
     let all = b"made db=\"shop.db\"
 answered status=200 request=\"POST /c/office/1 HTTP/1.1\"
 answered status=200 request=\"POST /c/office/1 HTTP/1.1\"
 answered status=409 code=72 name=number-reused request=\"POST /c/office/1 HTTP/1.1\"
 answered status=400 code=400 name=malformed request=\"POST /c/office/01 HTTP/1.1\"
 answered status=409 code=56 name=batch-unknown request=\"GET /batch/B9 HTTP/1.1\"
-broken request=\"GET /batch/B9 HTTP/1.1\"
+broken bytes=22
 closed connections=6
 ";
     let usual = b"made db=\"shop.db\"
 answered status=409 code=72 name=number-reused request=\"POST /c/office/1 HTTP/1.1\"
 answered status=400 code=400 name=malformed request=\"POST /c/office/01 HTTP/1.1\"
 answered status=409 code=56 name=batch-unknown request=\"GET /batch/B9 HTTP/1.1\"
-broken request=\"GET /batch/B9 HTTP/1.1\"
+broken bytes=22
 closed connections=6
 ";
     let lines = b"listening 127.0.0.1:8807\nserved 6\n";
@@ -156,7 +156,7 @@ closed connections=6
 
 // The bodies of refusals have four forms.
 #[test]
-fn each_refusal_has_its_code_and_its_name(rt: HostRuntime) -> Result<(), Fail> {
+fn the_code_and_name_of_a_refusal_are_found(rt: HostRuntime) -> Result<(), Fail> {
     let bodies: [(&[u8], Option<(&str, &str)>); 5] = [
         (
             b"{\"code\":56,\"refused\":\"batch-unknown\"}",
@@ -182,77 +182,9 @@ fn each_refusal_has_its_code_and_its_name(rt: HostRuntime) -> Result<(), Fail> {
     Ok(())
 }
 
-// The bytes before the first CR LF are shown, with escapes, only if they have the form of a request
-// line.
-#[test]
-fn only_a_request_line_is_shown(rt: HostRuntime) -> Result<(), Fail> {
-    let texts: [&[u8]; 10] = [
-        b"GET /batch/B1?x=\"\\ HTTP/1.1\r\n\r\n",
-        b"!#$%&'*+-.^_`|~9aZ / HTTP/9.0\r\n",
-        // A line that ends with only LF, and a line without an end.
-        b"GET /batch/B9 HTTP/1.1\nHost: x\r\n\r\n",
-        b"GET /batch/B9 HTTP/1.1",
-        // An invisible byte in the target, two spaces, and a missing version.
-        b"GET /\x80\x1b[2J HTTP/1.1\r\n\r\n",
-        b"GET  /batch/B9 HTTP/1.1\r\n\r\n",
-        b"GET /batch/B9\r\n\r\n",
-        // A row of a batch file with a PAN, and a status word, both without a head.
-        b"R1,A0000000031010,1,0,0,0101185A0847617390010100105F24",
-        b"{\"do\":\"answer\",\"session\":1,\"index\":0,\"sw\":\"6A80\"}\r\n\r\n",
-        b"",
-    ];
-    let events = b"made db=\"shop.db\"
-answered status=400 code=400 name=malformed request=\"GET /batch/B1?x=\\x22\\x5C HTTP/1.1\"
-broken request=\"!#$%&'*+-.^_`|~9aZ / HTTP/9.0\"
-answered status=400 code=400 name=malformed bytes=34
-broken bytes=22
-answered status=400 code=400 name=malformed bytes=23
-answered status=400 code=400 name=malformed bytes=27
-answered status=400 code=400 name=malformed bytes=17
-broken bytes=54
-answered status=400 code=400 name=malformed bytes=53
-broken bytes=0
-closed connections=10
-";
-    let lines = b"listening 127.0.0.1:8807\nserved 10\n";
-    let run = || {
-        let store = ListStore::new(rt.alloc());
-        served_over(rt.alloc(), store, NEW, &texts, 10, Level::All)
-    };
-    assert_ends!(rt; run(), Ok(()), lines, events);
-    Ok(())
-}
-
-// Returns the request line of a target with `letters` letters, 16 bytes more than these.
-fn request_line(letters: usize) -> io::Result<Limited> {
-    let mut line = Limited::new(512, 512);
-    line.write_all(b"GET /")?;
-    line.write_all([b'a'; 256].get(..letters).unwrap_or(&[]))?;
-    line.write_all(b" HTTP/1.1\r\n")?;
-    Ok(line)
-}
-
-// Only the first 256 bytes are examined, so a longer request line isn't shown.
-#[test]
-fn a_long_request_line_is_not_shown(rt: HostRuntime) -> Result<(), Fail> {
-    let (longest, longer) = (request_line(240)?, request_line(241)?);
-    let texts = [longest.taken(), longer.taken()];
-    let mut events = Limited::new(512, 512);
-    events.write_all(b"made db=\"shop.db\"\nbroken request=\"")?;
-    events.write_all(longest.taken().get(..254).unwrap_or(&[]))?;
-    events.write_all(b"\"\nbroken bytes=256\nclosed connections=2\n")?;
-    let lines = b"listening 127.0.0.1:8807\nserved 2\n";
-    let run = || {
-        let store = ListStore::new(rt.alloc());
-        served_over(rt.alloc(), store, NEW, &texts, 2, Level::All)
-    };
-    assert_ends!(rt; run(), Ok(()), lines, events.taken());
-    Ok(())
-}
-
 // The first event line of an existing store has its counts, except those that can't be read.
 #[test]
-fn a_store_that_was_there_is_counted(rt: HostRuntime) -> Result<(), Fail> {
+fn the_contents_of_an_existing_store_are_counted(rt: HostRuntime) -> Result<(), Fail> {
     let lines = b"listening 127.0.0.1:8807\nserved 0\n";
     let counted = b"opened db=\"my \\x22shop\\x22.db\" log=taken batches=1 sessions=0 replies=3
 closed connections=0
@@ -271,10 +203,10 @@ closed connections=0
 // Each 503 has the fault of the store. `recovered` is written before the line of the first
 // connection for which the store works again.
 #[test]
-fn a_store_that_is_full_and_recovers(rt: HostRuntime) -> Result<(), Fail> {
+fn a_full_store_recovers(rt: HostRuntime) -> Result<(), Fail> {
     let events = b"made db=\"shop.db\"
 answered status=503 code=503 name=storage fault=full request=\"POST /c/office/1 HTTP/1.1\"
-broken request=\"GET /batch/B9 HTTP/1.1\"
+broken bytes=22
 recovered
 answered status=409 code=56 name=batch-unknown request=\"GET /batch/B9 HTTP/1.1\"
 closed connections=4
@@ -289,7 +221,7 @@ closed connections=4
 // After a failure of the device the store is shut and can't be closed, so the last line isn't
 // written.
 #[test]
-fn a_store_that_fails_is_not_closed(rt: HostRuntime) -> Result<(), Fail> {
+fn a_failed_store_is_not_closed(rt: HostRuntime) -> Result<(), Fail> {
     let events = b"made db=\"shop.db\"
 answered status=503 code=503 name=storage fault=device request=\"POST /c/m1/1 HTTP/1.1\"
 answered status=503 code=503 name=storage fault=device request=\"POST /c/m1/1 HTTP/1.1\"
@@ -310,9 +242,8 @@ unclosed fault=device
     Ok(())
 }
 
-// The store is closed even if there is no next connection.
 #[test]
-fn connections_that_are_used_up(rt: HostRuntime) -> Result<(), Fail> {
+fn the_store_is_closed_if_no_connection_is_left(rt: HostRuntime) -> Result<(), Fail> {
     let events = b"made db=\"shop.db\"
 answered status=409 code=56 name=batch-unknown request=\"GET /batch/B9 HTTP/1.1\"
 closed connections=1
@@ -413,18 +344,17 @@ closed connections=2
 
 // If a response can't be written, its line has the status, no matter how much was written.
 #[test]
-fn a_reply_that_is_not_taken_is_unsent(rt: HostRuntime) -> Result<(), Fail> {
+fn a_response_that_is_not_accepted_is_unsent(rt: HostRuntime) -> Result<(), Fail> {
     for room in [0, 1, 11, 12, 100] {
         check_unsent(&rt, rt.alloc(), room)?;
     }
     Ok(())
 }
 
-// Serves a `product` request. The writer of lines has room for `room` bytes, and the writer of
-// event lines for `event_room` bytes.
-fn cut_lines(alloc: Global, room: usize, event_room: usize) -> Result<Ended, AllocError> {
-    let mut writer = Limited::new(room, 3);
-    let mut events = EventLog::new(Level::All, Limited::new(event_room, 3));
+// Serves a `product` request. The writer of event lines has room for `room` bytes.
+fn cut_lines(alloc: Global, room: usize) -> Result<Ended, AllocError> {
+    let mut writer = Limited::new(512, 3);
+    let mut events = EventLog::new(Level::All, Limited::new(room, 3));
     let outcome = serve_cut(alloc, &[PRODUCT], 512, &mut writer, &mut events);
     Ok(Ended {
         outcome,
@@ -441,7 +371,7 @@ closed connections=1
 fn check_event_room(rt: &impl Abort, alloc: Global, room: usize) -> Result<(), Fail> {
     let events = A_PRODUCT.get(..room).unwrap_or(A_PRODUCT);
     let lines = b"listening 127.0.0.1:8807\nserved 1\n";
-    assert_ends!(rt; cut_lines(alloc, 512, room), Ok(()), lines, events);
+    assert_ends!(rt; cut_lines(alloc, room), Ok(()), lines, events);
     Ok(())
 }
 
@@ -481,9 +411,10 @@ fn flushed_lines(alloc: Global, flushes: u32) -> Result<Ended, AllocError> {
     })
 }
 
-// Each of the two lines is flushed after it is written. A failed flush is a failed write.
+// Each of the two lines is flushed after it is written. A failed flush is a failed write. The store
+// is closed even if the first line fails.
 #[test]
-fn a_line_that_is_not_flushed_ends_the_server(rt: HostRuntime) -> Result<(), Fail> {
+fn a_failed_flush_ends_the_server(rt: HostRuntime) -> Result<(), Fail> {
     let stop = Err(ServeStop::Write);
     let events = b"made db=\"shop.db\"\nclosed connections=0\n";
     assert_ends!(rt; flushed_lines(rt.alloc(), 0), stop, LISTENING, events);
@@ -493,23 +424,10 @@ fn a_line_that_is_not_flushed_ends_the_server(rt: HostRuntime) -> Result<(), Fai
     Ok(())
 }
 
-// Event lines that can't be written stop nothing.
 #[test]
-fn event_lines_that_fail_stop_nothing(rt: HostRuntime) -> Result<(), Fail> {
+fn failed_event_lines_do_not_end_the_server(rt: HostRuntime) -> Result<(), Fail> {
     for room in [0, 10, 60, 512] {
         check_event_room(&rt, rt.alloc(), room)?;
     }
-    Ok(())
-}
-
-// If the last line can't be written completely, the store is already closed. If the first line
-// can't, no connection is served.
-#[test]
-fn a_line_that_fails_ends_the_server(rt: HostRuntime) -> Result<(), Fail> {
-    let stop = Err(ServeStop::Write);
-    let lines = b"listening 127.0.0.1:8807\nserv";
-    assert_ends!(rt; cut_lines(rt.alloc(), 29, 512), stop, lines, A_PRODUCT);
-    let events = b"made db=\"shop.db\"\nclosed connections=0\n";
-    assert_ends!(rt; cut_lines(rt.alloc(), 9, 512), stop, b"listening", events);
     Ok(())
 }
