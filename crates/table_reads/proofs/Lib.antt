@@ -8,6 +8,7 @@ pub mod BriefRows
 pub mod Found
 pub mod Alone
 pub mod Rising
+pub mod OneByOne
 pub mod After
 pub mod OneVersion
 pub mod OneHeld

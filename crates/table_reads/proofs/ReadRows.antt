@@ -1,8 +1,7 @@
 -- The relation between the rows that a query of a whole table returns and the stored rows.
-use Rattle.std.proofs.Common.{◌≡◌, ◌++◌, ℕ, zero, suc, Bool, true, false, List, [], ◌∷◌, map, All, refl, sym, ap, ap₂, subst, ◌∙◌, arith}
-use Rattle.std.specs.List.{AllByRecursion}
+use Rattle.std.proofs.Common.{◌≡◌, ◌↔◌, ℕ, IsTrue, MatchOption, None, Option, Some, zero, suc, Bool, true, false, List, [], ◌∷◌, map, All, refl, sym, ap, ap₂, subst, ◌∙◌, arith}
+use Rattle.std.specs.List.{AllByRecursion, AllZip}
 use Rattle.std.specs.List.Sorted.{IsPermutation}
-use Rattle.std.proofs.lemmas.List.{map-append}
 use Rattle.std.proofs.lemmas.List.Sorted.{All-permutation, IsPermutation-map, IsPermutation-sym, IsPermutation-trans}
 use Rattle.sqlite.specs.Effect.{Database, IsDatabase}
 use Rattle.sqlite.specs.Order.{Row}
@@ -11,8 +10,11 @@ use Rattle.sqlite_schema.specs.Names.{same_name}
 use Rattle.sqlite_schema.specs.Rules.{passes as keeps}
 use Rattle.sqlite_schema.specs.declared.schema.Constraint.{Constraint}
 use Rattle.sqlite_schema.specs.declared.schema.Constraint.TheVariants.{Datatype, NotNull}
+use Rattle.sql_base.specs.Rowids.{AreApart}
 use Rattle.sql_tables.specs.Finds.{Finds}
 use Rattle.sql_rows.specs.Image.{given_rows}
+use Rattle.table_reads.specs.Converted.{AreConverted}
+use Rattle.table_reads.specs.declared.reads.TableRows.{TableRows}
 use Rattle.table_reads.specs.Whole.{AreShown, IsWhole, NoneStandSo, as_stored, columns_of, stored_row, with_rowid}
 use Rattle.sql_tables.proofs.Lookups.{all_at, is_at}
 
@@ -78,12 +80,25 @@ shaped encode fits f IsShaped law rows stored is xs all same =
     let here : All Behind (map f rows) = All-permutation Behind _ _ both (to_all Behind (map encode xs) encoded) in
     to_all IsShaped rows (each_behind f IsShaped rows (from_all Behind (map f rows) here))
 
-pub none_read : {X : Type 0} (encode : X → Row) (fits : X → Type 0) (by_rowid : Bool) (IsShaped : Row → Type 0) → ((x : X) → fits x → (r : Row) → as_stored by_rowid r ≡ encode x → IsShaped r) → (rows : List Row) (stored : List Row)
+none_read : {X : Type 0} (encode : X → Row) (fits : X → Type 0) (by_rowid : Bool) (IsShaped : Row → Type 0) → ((x : X) → fits x → (r : Row) → as_stored by_rowid r ≡ encode x → IsShaped r) → (rows : List Row) (stored : List Row)
     → IsPermutation (map (as_stored by_rowid) rows) stored → (All IsShaped rows → ⊥) → NoneStandSo encode fits stored
 none_read encode fits by_rowid IsShaped law rows stored is none = λ xs all same. none (shaped encode fits (as_stored by_rowid) IsShaped law rows stored is xs all same)
 
--- one more row is decoded
-pub further : {X : Type 0} (encode : X → Row) (f : Row → Row) (rows : List Row) (row : Row) (x : X) → encode x ≡ f row
-    → (xs ys : List X) → map encode xs ≡ map f rows → ys ≡ xs ++ x ∷ [] → map encode ys ≡ map f (rows ++ row ∷ [])
-further encode f rows row x is xs ys before pushed =
-    ap (map encode) pushed ∙ map-append encode xs (x ∷ []) ∙ ap₂ ◌++◌ before (ap (λ y. y ∷ []) is) ∙ sym (map-append f rows (row ∷ []))
+-- ---- the result of reading a whole table
+
+zip_maps : {X : Type 0} (encode : X → Row) (f : Row → Row) (rows : List Row) (xs : List X) → AllZip (λ r x. encode x ≡ f r) rows xs → map encode xs ≡ map f rows
+zip_maps encode f [] [] all = refl
+zip_maps encode f [] (x ∷ xs) all = absurd all
+zip_maps encode f (r ∷ rows) [] all = absurd all
+zip_maps encode f (r ∷ rows) (x ∷ xs) all = ap₂ ◌∷◌ all.0 (zip_maps encode f rows xs all.1)
+
+module _ {X : Type 0} (encode : X → Row) (fits : X → Type 0) (by_rowid : Bool) (IsShaped : Row → Type 0) (law : (x : X) → fits x → (r : Row) → as_stored by_rowid r ≡ encode x → IsShaped r) where
+  pub whole_found : (sql : List ℕ) (table : ℕ → Table) (whole : IsWhole sql table by_rowid) (db : Database) → IsDatabase db → (found : Option (TableRows X)) → AreConverted IsShaped (λ r x. encode x ≡ as_stored by_rowid r) sql db found
+      → (tree : ℕ) → Finds db.schema (table tree)
+      → MatchOption found (NoneStandSo encode fits (given_rows by_rowid (db.trees tree))) (λ all. IsPermutation (map encode all.rows.items) (given_rows by_rowid (db.trees tree)) × (IsTrue all.apart ↔ AreApart (db.trees tree)))
+  whole_found sql table whole db sound None read tree f =
+      let l = read tree whole.columns (whole.asks db.schema tree f) in
+      none_read encode fits by_rowid IsShaped law l.rows (given_rows by_rowid (db.trees tree)) (exact sql table by_rowid whole db sound tree f l.rows l.apart l.shown) l.lack
+  whole_found sql table whole db sound (Some all) read tree f =
+      let a = read tree whole.columns (whole.asks db.schema tree f) in
+      (subst (λ xs. IsPermutation xs (given_rows by_rowid (db.trees tree))) (sym (zip_maps encode (as_stored by_rowid) a.rows all.rows.items a.values)) (exact sql table by_rowid whole db sound tree f a.rows all.apart a.shown), a.shown.apart_is)

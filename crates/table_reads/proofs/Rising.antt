@@ -175,13 +175,20 @@ module _ (columns : List Term) where
         (apart_if rows (λ id. subst (λ n. n ≤ 1) (sym (as_many id)) (few_apart (has id) id (λ r h. equal_if r id h) stored apart.apart)))
         sorted
 
--- the sorted result of a query for rowids and other columns
-pub sorted_shown : (sql : _) (old new : State) (rows sorted : List Row) → Shown sql [] old new rows → IsPermutation rows sorted → IsSortedByKey rowid_int int_cmp sorted → (apart : Bool) → IsTrue apart ↔ AreRising sorted
-    → (tree : ℕ) (columns : List Term) → Asks old.now.schema sql tree (with_rowid columns) → AreShown (with_rowid columns) (old.now.trees tree) sorted apart
-sorted_shown sql old new rows sorted h same rise apart is tree columns asks =
-    let got = selected sql [] old new old.now.schema refl tree [] (with_rowid columns) asks.names asks.command asks.plain asks.unlisted rows h in
-    let value : IsPermutation (map (columns_of (with_rowid columns)) (old.now.trees tree)) rows = subst (λ xs. IsPermutation (map (shown (with_rowid columns) []) xs) rows) (all_pass (old.now.trees tree)) got in
-    let all = IsPermutation-trans _ rows _ value same in record {
-      rows = all;
-      apart_is = ((λ rises. given_apart columns (old.now.trees tree) sorted all (is.0 rises)), (λ held. is.1 (told_rising columns (old.now.trees tree) sorted all rise held)));
-    }
+module _ (sql : _) (old new : State) (rows : List Row) (result : Shown sql [] old new rows) (tree : ℕ) (columns : List Term) (asks : Asks old.now.schema sql tree (with_rowid columns)) where
+  all_shown : IsPermutation (map (columns_of (with_rowid columns)) (old.now.trees tree)) rows
+  all_shown =
+      let got = selected sql [] old new old.now.schema refl tree [] (with_rowid columns) asks.names asks.command asks.plain asks.unlisted rows result in
+      subst (λ xs. IsPermutation (map (shown (with_rowid columns) []) xs) rows) (all_pass (old.now.trees tree)) got
+
+  -- the sorted result of a query for rowids and other columns
+  pub sorted_shown : (sorted : List Row) → IsPermutation rows sorted → IsSortedByKey rowid_int int_cmp sorted → (apart : Bool) → IsTrue apart ↔ AreRising sorted → AreShown (with_rowid columns) (old.now.trees tree) sorted apart
+  sorted_shown sorted same rise apart is =
+      let all = IsPermutation-trans _ rows _ all_shown same in record {
+        rows = all;
+        apart_is = ((λ rises. given_apart columns (old.now.trees tree) sorted all (is.0 rises)), (λ held. is.1 (told_rising columns (old.now.trees tree) sorted all rise held)));
+      }
+
+  -- a result that ascends
+  pub rising_shown : AreRising rows → AreShown (with_rowid columns) (old.now.trees tree) rows true
+  rising_shown rising = record { rows = all_shown; apart_is = ((λ _. given_apart columns (old.now.trees tree) rows all_shown rising), (λ _. refl)) }

@@ -5,6 +5,8 @@ pub mod Encoded
 pub mod Texts
 pub mod Version
 pub mod Rowids
+pub mod Converted
+pub mod Streaming
 pub mod Unread
 pub mod Replies
 pub mod Holding

@@ -3,12 +3,14 @@
 #![tactic(auto)]
 
 mod cards;
+mod conversion;
 pub mod laws;
 mod names;
 mod reads;
 mod replies;
 mod rowids;
 mod stored;
+mod streaming;
 mod tables;
 mod values;
 mod version;

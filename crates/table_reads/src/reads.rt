@@ -11,12 +11,16 @@ ghost use Rattle.sql_base.specs.Ends.{IsKept};
 ghost use Rattle.sql_base.specs.Rowids.{AreApart};
 ghost use Rattle.sql_tables.specs.Finds.{Finds};
 ghost use Rattle.sql_rows.specs.Image.{given_rows};
+ghost use Rattle.table_reads.specs.Converted.{AreConverted};
 ghost use Rattle.table_reads.specs.Whole.{AreShown, Asks, IsWhole, NoneStandSo, with_rowid};
 
+use crate::conversion::{Conversion, all_in};
 use crate::rowids::{are_rising, sort_rowids};
-use crate::stored::{Stored, all_in};
+use crate::stored::{Stored, WholeRow};
+use crate::streaming::streamed;
 use sql_base::{laws, rows_of};
 use sqlite::{Alter, Connection, Error, Row};
+use std::alloc::Global;
 
 /// The rows of a table.
 #[derive(Drop)]
@@ -53,10 +57,65 @@ pub(crate) fn shown_rows<S: Alter>(
     Ok(TableRows { rows, apart })
 }
 
+// Returns the values of all rows of a query, or `None` if a row doesn't have the shape. All rows
+// are in memory before the first one is converted.
+fn collected<X: Drop, C: Conversion<X>, S: Alter>(
+    conn: &mut Connection<S>,
+    sql: &str,
+) -> Result<Option<TableRows<X>>, Error>
+    requires { conn.old.in_transaction ≡ false }
+    ensures value { HasCleanDisk (state S.Store conn.new) → IfOk result
+        (λ found. IsTrue (state S.Store conn.old).is_open
+        × IsDatabase (state S.Store conn.old).now
+        × AreConverted C.is_row C.gives sql.now (state S.Store conn.old).now found) }
+    ensures kept { HasCleanDisk (state S.Store conn.new)
+        → IsKept (state S.Store conn.old) (state S.Store conn.new) }
+    ensures idle { conn.new.in_transaction ≡ false }
+    ensures survives { Survives (state S.Store conn.old) (state S.Store conn.new) (λ _. ⊥) }
+    ensures cause { HasCleanDisk (state S.Store conn.new) → IfErr result
+        (HadCause S.Store (state S.Store conn.old) (state S.Store conn.new)) }
+{
+    let shown = shown_rows(conn, sql)?;
+    let alloc = *shown.rows.allocator();
+    let Some(rows) = all_in::<X, C>(alloc, shown.rows)? else {
+        return Ok(None);
+    };
+    Ok(Some(TableRows {
+        rows,
+        apart: shown.apart,
+    }))
+}
+
+// Returns the values of all rows of a query, or `None` if a row doesn't have the shape. If the
+// rowids ascend, as they usually do, each row is converted before the next one is read.
+pub(crate) fn converted<X: Drop, C: Conversion<X>, S: Alter>(
+    alloc: Global,
+    conn: &mut Connection<S>,
+    sql: &str,
+) -> Result<Option<TableRows<X>>, Error>
+    requires { conn.old.in_transaction ≡ false }
+    ensures value { HasCleanDisk (state S.Store conn.new) → IfOk result
+        (λ found. IsTrue (state S.Store conn.old).is_open
+        × IsDatabase (state S.Store conn.old).now
+        × AreConverted C.is_row C.gives sql.now (state S.Store conn.old).now found) }
+    ensures kept { HasCleanDisk (state S.Store conn.new)
+        → IsKept (state S.Store conn.old) (state S.Store conn.new) }
+    ensures idle { conn.new.in_transaction ≡ false }
+    ensures survives { Survives (state S.Store conn.old) (state S.Store conn.new) (λ _. ⊥) }
+    ensures cause { HasCleanDisk (state S.Store conn.new) → IfErr result
+        (HadCause S.Store (state S.Store conn.old) (state S.Store conn.new)) }
+{
+    if let Some(rows) = streamed::<X, C, S>(alloc, conn, sql)? {
+        return Ok(Some(TableRows { rows, apart: true }));
+    }
+    collected::<X, C, S>(conn, sql)
+}
+
 /// Returns all rows of the table that the query `sql` reads, in any order, and whether their rowids
 /// are different. Returns `None` if a row doesn't have the shape of its table. The database isn't
 /// changed, even by a crash.
 pub fn whole<T: Stored, S: Alter>(
+    alloc: Global,
     conn: &mut Connection<S>,
     sql: &str,
 ) -> Result<Option<TableRows<T>>, Error>
@@ -77,13 +136,5 @@ pub fn whole<T: Stored, S: Alter>(
     ensures cause { HasCleanDisk (state S.Store conn.new) → IfErr result
         (HadCause S.Store (state S.Store conn.old) (state S.Store conn.new)) }
 {
-    let shown = shown_rows(conn, sql)?;
-    let alloc = *shown.rows.allocator();
-    let Some(rows) = all_in(alloc, shown.rows)? else {
-        return Ok(None);
-    };
-    Ok(Some(TableRows {
-        rows,
-        apart: shown.apart,
-    }))
+    converted::<T, WholeRow, S>(alloc, conn, sql)
 }

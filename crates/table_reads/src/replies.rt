@@ -19,7 +19,8 @@ ghost use Rattle.table_reads.specs.Shown.{IsAny, IsBriefRow};
 ghost use Rattle.table_reads.specs.Unread.{without_reply_bytes};
 ghost use Rattle.table_reads.specs.Whole.{NoneStandSo};
 
-use crate::reads::{TableRows, shown_rows, whole};
+use crate::conversion::Conversion;
+use crate::reads::{TableRows, converted, whole};
 use crate::values::{bytes_at, is_number, is_text, number_at};
 use sqlite::{Alter, Connection, Error, Row};
 use std::alloc::Global;
@@ -32,46 +33,33 @@ fn is_brief(row: &Row) -> bool
     row.column_count() == 4 && is_text(row, 1) && is_number(row, 2) && is_number(row, 3)
 }
 
-// Returns the reply in a row of the query, or `None` if the row has another shape. An error is
-// never a disk error.
-fn brief_in(alloc: Global, row: &Row) -> Result<Option<StoredReply>, Error>
-    ensures { MatchResult result (λ found. MatchOption found (IsBriefRow row.now → ⊥)
-        (λ reply. IsBriefRow row.now × (reply ≡ brief_of row.now)))
-        (λ e. is_disk_error e ≡ false) }
-{
-    if !is_brief(row) {
-        return Ok(None);
-    }
-    let client = bytes_at(alloc, row, 1)?;
-    Ok(Some(StoredReply {
-        client,
-        number: number_at(row, 2),
-        ask: Vec::new(alloc),
-        status: number_at(row, 3),
-        body: Vec::new(alloc),
-    }))
-}
+// The conversion of the rows of `reply` without their request bytes and bodies.
+struct BriefReply;
 
-// Returns the replies in the rows of the query, or `None` if a row has another shape. An error is
-// never a disk error.
-fn all_brief_in(alloc: Global, rows: Vec<Row>) -> Result<Option<Vec<StoredReply>>, Error>
-    ensures { MatchResult result (λ found. MatchOption found (All IsBriefRow rows.items → ⊥)
-        (λ all. All IsBriefRow rows.items × (all.items ≡ map brief_of rows.items)))
-        (λ e. is_disk_error e ≡ false) }
-{
-    let mut all = Vec::with_capacity(alloc, rows.len())?;
-    for row in rows {
-        let Some(reply) = brief_in(alloc, &row)? else {
+impl Conversion<StoredReply> for BriefReply {
+    ghost is_row = { IsBriefRow };
+
+    ghost gives = { λ row reply. IsBriefRow row × (reply ≡ brief_of row) };
+
+    fn convert(alloc: Global, row: &Row) -> Result<Option<StoredReply>, Error> {
+        if !is_brief(row) {
             return Ok(None);
-        };
-        all.push(reply)?;
+        }
+        let client = bytes_at(alloc, row, 1)?;
+        Ok(Some(StoredReply {
+            client,
+            number: number_at(row, 2),
+            ask: Vec::new(alloc),
+            status: number_at(row, 3),
+            body: Vec::new(alloc),
+        }))
     }
-    Ok(Some(all))
 }
 
 // Returns all replies without their request bytes and bodies, and whether their rowids are
 // different. Returns `None` if a row isn't a reply.
 pub(crate) fn brief_replies<S: Alter>(
+    alloc: Global,
     conn: &mut Connection<S>,
 ) -> Result<Option<TableRows<StoredReply>>, Error>
     requires { conn.old.in_transaction ≡ false }
@@ -90,15 +78,8 @@ pub(crate) fn brief_replies<S: Alter>(
     ensures cause { HasCleanDisk (state S.Store conn.new) → IfErr result
         (HadCause S.Store (state S.Store conn.old) (state S.Store conn.new)) }
 {
-    let shown = shown_rows(conn, "SELECT rowid, client, number, status FROM reply")?;
-    let alloc = *shown.rows.allocator();
-    let Some(rows) = all_brief_in(alloc, shown.rows)? else {
-        return Ok(None);
-    };
-    Ok(Some(TableRows {
-        rows,
-        apart: shown.apart,
-    }))
+    let sql = "SELECT rowid, client, number, status FROM reply";
+    converted::<StoredReply, BriefReply, S>(alloc, conn, sql)
 }
 
 /// Returns the rows `tables` with the request bytes and bodies of the replies, which it reads from
@@ -121,7 +102,8 @@ pub fn with_reply_bytes<S: Alter>(
     ensures cause { HasCleanDisk (state S.Store conn.new) → IfErr result
         (HadCause S.Store (state S.Store conn.old) (state S.Store conn.new)) }
 {
-    let Some(replies) = whole(conn, "SELECT rowid, * FROM reply")? else {
+    let alloc = *tables.replies.allocator();
+    let Some(replies) = whole(alloc, conn, "SELECT rowid, * FROM reply")? else {
         return Ok(None);
     };
     tables.replies = replies.rows;

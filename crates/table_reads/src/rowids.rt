@@ -22,7 +22,7 @@ fn int_or_zero(value: ValueRef<'_>) -> i64
     }
 }
 
-fn rowid_in(row: &Row) -> Option<i64>
+pub(crate) fn rowid_in(row: &Row) -> Option<i64>
     ensures { MatchOption result (Int (rowid_int row.now) ≡ rowid row.now → ⊥)
         (λ z. Int z ≡ rowid row.now) }
 {

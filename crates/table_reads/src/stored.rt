@@ -1,8 +1,8 @@
 //! The rows of a table that is read as a whole.
-ghost use Rattle.std.specs.Prelude.{◌≡◌, false, map, All, MatchOption, MatchResult};
-ghost use Rattle.sqlite.specs.State.{is_disk_error};
+ghost use Rattle.std.specs.Prelude.{◌≡◌};
 ghost use Rattle.table_reads.specs.Whole.{as_stored};
 
+use crate::conversion::Conversion;
 use sqlite::{Error, Row};
 use std::alloc::Global;
 
@@ -40,31 +40,19 @@ pub trait Stored: Sized + Drop {
         → is_row row };
 }
 
-// Returns the typed row for `row`, or `None` if `row` doesn't have the shape of the table.
-fn one_in<T: Stored>(alloc: Global, row: &Row) -> Result<Option<T>, Error>
-    ensures { MatchResult result (λ found. MatchOption found (T.is_row row.now → ⊥)
-        (λ it. T.encode it ≡ as_stored T.by_rowid row.now)) (λ e. is_disk_error e ≡ false) }
-{
-    if T::is_in(row) {
-        Ok(Some(T::read(alloc, row)?))
-    } else {
-        Ok(None)
-    }
-}
+/// The conversion of the rows of a table that is read as a whole.
+pub(crate) struct WholeRow;
 
-// Returns the typed rows of a whole table, or `None` if a row doesn't have the shape of the table.
-// Each row is freed as soon as it is converted, so the memory holds the table only once.
-pub(crate) fn all_in<T: Stored>(alloc: Global, rows: Vec<Row>) -> Result<Option<Vec<T>>, Error>
-    ensures { MatchResult result (λ found. MatchOption found (All T.is_row rows.items → ⊥)
-        (λ all. map T.encode all.items ≡ map (as_stored T.by_rowid) rows.items))
-        (λ e. is_disk_error e ≡ false) }
-{
-    let mut all = Vec::with_capacity(alloc, rows.len())?;
-    for row in rows {
-        let Some(it) = one_in::<T>(alloc, &row)? else {
-            return Ok(None);
-        };
-        all.push(it)?;
+impl<T: Stored> Conversion<T> for WholeRow {
+    ghost is_row = { T.is_row };
+
+    ghost gives = { λ row it. T.encode it ≡ as_stored T.by_rowid row };
+
+    fn convert(alloc: Global, row: &Row) -> Result<Option<T>, Error> {
+        if T::is_in(row) {
+            Ok(Some(T::read(alloc, row)?))
+        } else {
+            Ok(None)
+        }
     }
-    Ok(Some(all))
 }

@@ -74,6 +74,7 @@ fn gathered(alloc: Global, found: Found) -> Option<HeldRows>
 
 // Reads the groupings. Version 3 has its own table for them.
 fn groupings<S: Alter>(
+    alloc: Global,
     conn: &mut Connection<S>,
     version: Version,
 ) -> Result<Option<TableRows<StoredGrouping>>, Error>
@@ -88,8 +89,8 @@ fn groupings<S: Alter>(
         (HadCause S.Store (state S.Store conn.old) (state S.Store conn.new)) }
 {
     match version {
-        Version::One | Version::Two => whole(conn, "SELECT rowid, * FROM grouping"),
-        Version::Three => whole(conn, "SELECT rowid, * FROM grouping2"),
+        Version::One | Version::Two => whole(alloc, conn, "SELECT rowid, * FROM grouping"),
+        Version::Three => whole(alloc, conn, "SELECT rowid, * FROM grouping2"),
     }
 }
 
@@ -115,11 +116,12 @@ fn marks<S: Alter>(
             rows: Vec::new(alloc),
             apart: true,
         })),
-        Version::Two | Version::Three => whole(conn, "SELECT rowid, * FROM mark"),
+        Version::Two | Version::Three => whole(alloc, conn, "SELECT rowid, * FROM mark"),
     }
 }
 
-// Reads the rows of all tables except `version` and `reply`.
+// Reads the rows of all tables except `version` and `reply`. The largest tables are read early,
+// because a vector can need twice its memory while it grows.
 fn read_most<S: Alter>(
     alloc: Global,
     conn: &mut Connection<S>,
@@ -136,15 +138,15 @@ fn read_most<S: Alter>(
         (HadCause S.Store (state S.Store conn.old) (state S.Store conn.new)) }
 {
     let marks = marks(alloc, conn, version)?;
-    let products = whole(conn, "SELECT rowid, * FROM product")?;
-    let lots = whole(conn, "SELECT rowid, * FROM lot")?;
-    let batches = whole(conn, "SELECT * FROM batch")?;
-    let records = whole(conn, "SELECT rowid, * FROM record")?;
-    let groupings = groupings(conn, version)?;
-    let sessions = whole(conn, "SELECT * FROM session")?;
-    let words = whole(conn, "SELECT rowid, * FROM word")?;
-    let blanks = whole(conn, "SELECT * FROM blank")?;
-    let remakes = whole(conn, "SELECT rowid, * FROM remake")?;
+    let words = whole(alloc, conn, "SELECT rowid, * FROM word")?;
+    let sessions = whole(alloc, conn, "SELECT * FROM session")?;
+    let blanks = whole(alloc, conn, "SELECT * FROM blank")?;
+    let records = whole(alloc, conn, "SELECT rowid, * FROM record")?;
+    let groupings = groupings(alloc, conn, version)?;
+    let products = whole(alloc, conn, "SELECT rowid, * FROM product")?;
+    let lots = whole(alloc, conn, "SELECT rowid, * FROM lot")?;
+    let batches = whole(alloc, conn, "SELECT * FROM batch")?;
+    let remakes = whole(alloc, conn, "SELECT rowid, * FROM remake")?;
     Ok(gathered(
         alloc,
         Found {
@@ -186,7 +188,7 @@ pub fn read_for_audit<S: Alter>(
     let Some(mut held) = read_most(alloc, conn, version)? else {
         return Ok(None);
     };
-    let Some(replies) = brief_replies(conn)? else {
+    let Some(replies) = brief_replies(alloc, conn)? else {
         return Ok(None);
     };
     held.tables.replies = rows_beside(replies, &mut held.apart);
@@ -216,7 +218,7 @@ pub fn read_all<S: Alter>(
     let Some(held) = read_most(alloc, conn, version)? else {
         return Ok(None);
     };
-    let Some(replies) = whole(conn, "SELECT rowid, * FROM reply")? else {
+    let Some(replies) = whole(alloc, conn, "SELECT rowid, * FROM reply")? else {
         return Ok(None);
     };
     let mut tables = held.tables;

@@ -14,7 +14,7 @@ returns-clause-value g c clean =
     let rows = c.in_ok-rows.rows.items in
     let live = shown_open begun end c.args.sql.now _ rows shown.1 in
     let is = subst (λ rs. IsTrue c.are_rising-apart.result ↔ AreRising rs) c.as_slice.ensures.value c.are_rising-apart.ensures in
-    (live, (c.is_live.ensures live).0, sorted_shown c.args.sql.now begun end rows _ shown.1 c.sort_rowids.ensures.same c.in_ok-sort_rowids.ensures.sorted _ is)
+    (live, (c.is_live.ensures live).0, λ tree columns asks. sorted_shown c.args.sql.now begun end rows shown.1 tree columns asks _ c.sort_rowids.ensures.same c.in_ok-sort_rowids.ensures.sorted _ is)
 
 pub returns-in_err-sort_rowids-clause-cause : goal.returns-in_err-sort_rowids-clause-cause
 returns-in_err-sort_rowids-clause-cause g c clean =

@@ -11,13 +11,13 @@ use Rattle.table_reads.proofs.Together.{carried, early, outlives, outlives_four}
 use Rattle.table_reads.proofs.Causes.{passed_had}
 use Rattle.table_reads.proofs.tables.read_most.Goals as goal
 
-pub returns-in_err-words-clause-survives : goal.returns-in_err-words-clause-survives
-returns-in_err-words-clause-survives g c =
+pub returns-in_err-lots-clause-survives : goal.returns-in_err-lots-clause-survives
+returns-in_err-lots-clause-survives g c =
     outlives (outlives_four c.marks.ensures.survives c.whole.ensures.survives c.whole-2.ensures.survives c.whole-3.ensures.survives)
     (outlives_four c.whole-4.ensures.survives c.groupings.ensures.survives c.whole-5.ensures.survives c.whole-6.ensures.survives)
 
-pub returns-in_err-blanks-clause-survives : goal.returns-in_err-blanks-clause-survives
-returns-in_err-blanks-clause-survives g c =
+pub returns-in_err-batches-clause-survives : goal.returns-in_err-batches-clause-survives
+returns-in_err-batches-clause-survives g c =
     outlives (outlives (outlives_four c.marks.ensures.survives c.whole.ensures.survives c.whole-2.ensures.survives c.whole-3.ensures.survives)
     (outlives_four c.whole-4.ensures.survives c.groupings.ensures.survives c.whole-5.ensures.survives c.whole-6.ensures.survives)) c.whole-7.ensures.survives
 
@@ -63,36 +63,36 @@ returns-clause-value g c clean =
     let kept7 = kept_then s0 s6 s7 kept6 (c.whole-5.ensures.kept clean7) in
     let kept8 = kept_then s0 s7 s8 kept7 (c.whole-6.ensures.kept clean8) in
     let kept9 = kept_then s0 s8 s9 kept8 (c.whole-7.ensures.kept clean9) in
-    let first = c.in_ok-products.ensures.value clean2 in (
+    let first = c.in_ok-words.ensures.value clean2 in (
       kept1.was_open first.0,
       subst (λ all. MatchOption all (HoldsNoneOf v s0.now) (HasMost v s0.now)) (sym c.gathered.ensures)
           (most_read v s0.now c.in_ok-products.products c.in_ok-lots.lots c.in_ok-batches.batches c.in_ok-records.records c.in_ok-groupings.groupings c.in_ok-sessions.sessions c.in_ok-words.words c.in_ok-blanks.blanks c.in_ok-remakes.remakes c.in_ok-marks.marks
-          (read_of _ FitsProduct _ _ v (λ t. t.products) (λ t fit. fit.products) (λ t db held. held.products) _ wholes.products s0 s1 kept1 c.in_ok-products.products (c.in_ok-products.ensures.value clean2))
-          (read_of _ FitsLot _ _ v (λ t. t.lots) (λ t fit. fit.lots) (λ t db held. held.lots) _ wholes.lots s0 s2 kept2 c.in_ok-lots.lots (c.in_ok-lots.ensures.value clean3))
-          (read_of _ IsAny _ _ v (λ t. t.batches) (λ t fit k d low. tt) (λ t db held. held.batches) _ wholes.batches s0 s3 kept3 c.in_ok-batches.batches (c.in_ok-batches.ensures.value clean4))
+          (read_of _ FitsProduct _ _ v (λ t. t.products) (λ t fit. fit.products) (λ t db held. held.products) _ wholes.products s0 s6 kept6 c.in_ok-products.products (c.in_ok-products.ensures.value clean7))
+          (read_of _ FitsLot _ _ v (λ t. t.lots) (λ t fit. fit.lots) (λ t db held. held.lots) _ wholes.lots s0 s7 kept7 c.in_ok-lots.lots (c.in_ok-lots.ensures.value clean8))
+          (read_of _ IsAny _ _ v (λ t. t.batches) (λ t fit k d low. tt) (λ t db held. held.batches) _ wholes.batches s0 s8 kept8 c.in_ok-batches.batches (c.in_ok-batches.ensures.value clean9))
           (read_of _ IsAny _ _ v (λ t. t.records) (λ t fit k d low. tt) (λ t db held. held.records) _ wholes.records s0 s4 kept4 c.in_ok-records.records (c.in_ok-records.ensures.value clean5))
           (carried (HoldsNoneOf v) (HasGroupings v) s0 s5 kept5 c.in_ok-groupings.groupings (c.in_ok-groupings.ensures.value clean6))
-          (read_of _ IsAny _ _ v (λ t. t.sessions) (λ t fit k d low. tt) (λ t db held. held.sessions) _ wholes.sessions s0 s6 kept6 c.in_ok-sessions.sessions (c.in_ok-sessions.ensures.value clean7))
-          (read_of _ FitsWord _ _ v (λ t. t.words) (λ t fit. fit.words) (λ t db held. held.words) _ wholes.words s0 s7 kept7 c.in_ok-words.words (c.in_ok-words.ensures.value clean8))
-          (read_of _ IsAny _ _ v (λ t. t.blanks) (λ t fit k d low. tt) (λ t db held. held.blanks) _ wholes.blanks s0 s8 kept8 c.in_ok-blanks.blanks (c.in_ok-blanks.ensures.value clean9))
+          (read_of _ IsAny _ _ v (λ t. t.sessions) (λ t fit k d low. tt) (λ t db held. held.sessions) _ wholes.sessions s0 s2 kept2 c.in_ok-sessions.sessions (c.in_ok-sessions.ensures.value clean3))
+          (read_of _ FitsWord _ _ v (λ t. t.words) (λ t fit. fit.words) (λ t db held. held.words) _ wholes.words s0 s1 kept1 c.in_ok-words.words (c.in_ok-words.ensures.value clean2))
+          (read_of _ IsAny _ _ v (λ t. t.blanks) (λ t fit k d low. tt) (λ t db held. held.blanks) _ wholes.blanks s0 s3 kept3 c.in_ok-blanks.blanks (c.in_ok-blanks.ensures.value clean4))
           (read_of _ IsAny _ _ v (λ t. t.remakes) (λ t fit k d low. tt) (λ t db held. held.remakes) _ wholes.remakes s0 s9 kept9 c.in_ok-remakes.remakes (c.in_ok-remakes.ensures.value clean))
           (c.in_ok-marks.ensures.value clean1)),
     )
 
-pub returns-in_err-products-clause-cause : goal.returns-in_err-products-clause-cause
-returns-in_err-products-clause-cause g c clean =
-    let r = c.from_residual-in_err-products in
-    passed_had g.S.Store (state g.S.Store c.args.conn.now) (state g.S.Store c.marks.new.conn) (state g.S.Store c.whole.new.conn) c.marks.ensures.survives.counts r.result c.in_err-products.field-0.0 r.ensures.1 (c.in_err-products.ensures.cause clean)
+pub returns-in_err-words-clause-cause : goal.returns-in_err-words-clause-cause
+returns-in_err-words-clause-cause g c clean =
+    let r = c.from_residual-in_err-words in
+    passed_had g.S.Store (state g.S.Store c.args.conn.now) (state g.S.Store c.marks.new.conn) (state g.S.Store c.whole.new.conn) c.marks.ensures.survives.counts r.result c.in_err-words.field-0.0 r.ensures.1 (c.in_err-words.ensures.cause clean)
 
-pub returns-in_err-lots-clause-cause : goal.returns-in_err-lots-clause-cause
-returns-in_err-lots-clause-cause g c clean =
-    let r = c.from_residual-in_err-lots in
-    passed_had g.S.Store (state g.S.Store c.args.conn.now) (state g.S.Store c.whole.new.conn) (state g.S.Store c.whole-2.new.conn) (outlives c.marks.ensures.survives c.whole.ensures.survives).counts r.result c.in_err-lots.field-0.0 r.ensures.1 (c.in_err-lots.ensures.cause clean)
+pub returns-in_err-sessions-clause-cause : goal.returns-in_err-sessions-clause-cause
+returns-in_err-sessions-clause-cause g c clean =
+    let r = c.from_residual-in_err-sessions in
+    passed_had g.S.Store (state g.S.Store c.args.conn.now) (state g.S.Store c.whole.new.conn) (state g.S.Store c.whole-2.new.conn) (outlives c.marks.ensures.survives c.whole.ensures.survives).counts r.result c.in_err-sessions.field-0.0 r.ensures.1 (c.in_err-sessions.ensures.cause clean)
 
-pub returns-in_err-batches-clause-cause : goal.returns-in_err-batches-clause-cause
-returns-in_err-batches-clause-cause g c clean =
-    let r = c.from_residual-in_err-batches in
-    passed_had g.S.Store (state g.S.Store c.args.conn.now) (state g.S.Store c.whole-2.new.conn) (state g.S.Store c.whole-3.new.conn) (outlives (outlives c.marks.ensures.survives c.whole.ensures.survives) c.whole-2.ensures.survives).counts r.result c.in_err-batches.field-0.0 r.ensures.1 (c.in_err-batches.ensures.cause clean)
+pub returns-in_err-blanks-clause-cause : goal.returns-in_err-blanks-clause-cause
+returns-in_err-blanks-clause-cause g c clean =
+    let r = c.from_residual-in_err-blanks in
+    passed_had g.S.Store (state g.S.Store c.args.conn.now) (state g.S.Store c.whole-2.new.conn) (state g.S.Store c.whole-3.new.conn) (outlives (outlives c.marks.ensures.survives c.whole.ensures.survives) c.whole-2.ensures.survives).counts r.result c.in_err-blanks.field-0.0 r.ensures.1 (c.in_err-blanks.ensures.cause clean)
 
 pub returns-in_err-records-clause-cause : goal.returns-in_err-records-clause-cause
 returns-in_err-records-clause-cause g c clean =
@@ -105,24 +105,24 @@ returns-in_err-groupings-clause-cause g c clean =
     let r = c.from_residual-in_err-groupings in
     passed_had g.S.Store (state g.S.Store c.args.conn.now) (state g.S.Store c.whole-4.new.conn) (state g.S.Store c.groupings.new.conn) (outlives by4 c.whole-4.ensures.survives).counts r.result c.in_err-groupings.field-0.0 r.ensures.1 (c.in_err-groupings.ensures.cause clean)
 
-pub returns-in_err-sessions-clause-cause : goal.returns-in_err-sessions-clause-cause
-returns-in_err-sessions-clause-cause g c clean =
+pub returns-in_err-products-clause-cause : goal.returns-in_err-products-clause-cause
+returns-in_err-products-clause-cause g c clean =
     let by4 = outlives_four c.marks.ensures.survives c.whole.ensures.survives c.whole-2.ensures.survives c.whole-3.ensures.survives in
-    let r = c.from_residual-in_err-sessions in
-    passed_had g.S.Store (state g.S.Store c.args.conn.now) (state g.S.Store c.groupings.new.conn) (state g.S.Store c.whole-5.new.conn) (outlives (outlives by4 c.whole-4.ensures.survives) c.groupings.ensures.survives).counts r.result c.in_err-sessions.field-0.0 r.ensures.1 (c.in_err-sessions.ensures.cause clean)
+    let r = c.from_residual-in_err-products in
+    passed_had g.S.Store (state g.S.Store c.args.conn.now) (state g.S.Store c.groupings.new.conn) (state g.S.Store c.whole-5.new.conn) (outlives (outlives by4 c.whole-4.ensures.survives) c.groupings.ensures.survives).counts r.result c.in_err-products.field-0.0 r.ensures.1 (c.in_err-products.ensures.cause clean)
 
-pub returns-in_err-words-clause-cause : goal.returns-in_err-words-clause-cause
-returns-in_err-words-clause-cause g c clean =
+pub returns-in_err-lots-clause-cause : goal.returns-in_err-lots-clause-cause
+returns-in_err-lots-clause-cause g c clean =
     let by4 = outlives_four c.marks.ensures.survives c.whole.ensures.survives c.whole-2.ensures.survives c.whole-3.ensures.survives in
-    let r = c.from_residual-in_err-words in
-    passed_had g.S.Store (state g.S.Store c.args.conn.now) (state g.S.Store c.whole-5.new.conn) (state g.S.Store c.whole-6.new.conn) (outlives (outlives (outlives by4 c.whole-4.ensures.survives) c.groupings.ensures.survives) c.whole-5.ensures.survives).counts r.result c.in_err-words.field-0.0 r.ensures.1 (c.in_err-words.ensures.cause clean)
+    let r = c.from_residual-in_err-lots in
+    passed_had g.S.Store (state g.S.Store c.args.conn.now) (state g.S.Store c.whole-5.new.conn) (state g.S.Store c.whole-6.new.conn) (outlives (outlives (outlives by4 c.whole-4.ensures.survives) c.groupings.ensures.survives) c.whole-5.ensures.survives).counts r.result c.in_err-lots.field-0.0 r.ensures.1 (c.in_err-lots.ensures.cause clean)
 
-pub returns-in_err-blanks-clause-cause : goal.returns-in_err-blanks-clause-cause
-returns-in_err-blanks-clause-cause g c clean =
+pub returns-in_err-batches-clause-cause : goal.returns-in_err-batches-clause-cause
+returns-in_err-batches-clause-cause g c clean =
     let by4 = outlives_four c.marks.ensures.survives c.whole.ensures.survives c.whole-2.ensures.survives c.whole-3.ensures.survives in
     let by8 = outlives by4 (outlives_four c.whole-4.ensures.survives c.groupings.ensures.survives c.whole-5.ensures.survives c.whole-6.ensures.survives) in
-    let r = c.from_residual-in_err-blanks in
-    passed_had g.S.Store (state g.S.Store c.args.conn.now) (state g.S.Store c.whole-6.new.conn) (state g.S.Store c.whole-7.new.conn) by8.counts r.result c.in_err-blanks.field-0.0 r.ensures.1 (c.in_err-blanks.ensures.cause clean)
+    let r = c.from_residual-in_err-batches in
+    passed_had g.S.Store (state g.S.Store c.args.conn.now) (state g.S.Store c.whole-6.new.conn) (state g.S.Store c.whole-7.new.conn) by8.counts r.result c.in_err-batches.field-0.0 r.ensures.1 (c.in_err-batches.ensures.cause clean)
 
 pub returns-in_err-remakes-clause-cause : goal.returns-in_err-remakes-clause-cause
 returns-in_err-remakes-clause-cause g c clean =
