@@ -1,8 +1,8 @@
 -- Lemmas about lots that share no serial: only the last lot that begins at or before a serial can
 -- contain it.
-use Rattle.std.proofs.Common.{◌≡◌, ℕ, suc, ◌+◌, ◌≤◌, ◌<◌, ◌^◌, nat_le, nat_lt, Bool, true, false, cond, List, [], ◌∷◌, take, get_or, All, Some, inl, inr, refl, sym, ap, subst, ◌∙◌, arith, IsPermutation}
-use Rattle.std.specs.Prelude.{AllPairs, count_by, filter, find}
-use Rattle.std.proofs.lemmas.Bool.{and_parts, cases_Bool, cond-false, cond-true, false_from_ne_true}
+use Rattle.std.proofs.Common.{◌≡◌, ℕ, ◌≤◌, ◌<◌, ◌^◌, nat_le, Bool, true, false, cond, List, [], ◌∷◌, take, get_or, All, Some, inl, inr, refl, sym, ap, subst, ◌∙◌, arith, IsPermutation}
+use Rattle.std.specs.Prelude.{count_by, filter, find}
+use Rattle.std.proofs.lemmas.Bool.{cases_Bool, cond-true, false_from_ne_true}
 use Rattle.std.proofs.lemmas.Bool.Decides.{nat_tests}
 use Rattle.std.proofs.lemmas.List.Elements.{All-cons, All-filter, All-head, All-nil, All-tail}
 use Rattle.std.proofs.lemmas.List.Kept.{AllPairs-filter}
@@ -10,7 +10,7 @@ use Rattle.std.proofs.lemmas.List.Sorted.{All-permutation}
 use Rattle.std.proofs.lemmas.List.Sums.{sum_by-cons}
 use Rattle.store_data.specs.declared.row.Product.{Product}
 use Rattle.job_facts.specs.declared.facts.Lot.{Lot}
-use Rattle.job_facts.specs.Sound.{AreApart, AreLots, IsLot}
+use Rattle.job_facts.specs.Sound.{AreLots, IsLot}
 use Rattle.job_facts.specs.States.{is_in, lot_of}
 use Rattle.step_laws.proofs.BlankSums.{apart_once}
 use Rattle.step_laws.proofs.Permuted.{PassAlone, at_most_one, count_moved, find_moved}

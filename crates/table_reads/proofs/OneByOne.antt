@@ -1,5 +1,5 @@
 -- A query that never writes, and whose rows are read one at a time.
-use Rattle.std.proofs.Common.{◌≡◌, ◌+◌, ◌≤◌, ◌<ℤ◌, ◌⊎◌, ◌++◌, ℤ, ap, ◌∙◌, IfErr, IfOk, IsTrue, List, None, Ok, Err, Option, Result, Some, [], ◌∷◌, append-nil, append_assoc, arith, cond, false, inl, inr, refl, subst, sym, true, ℕ}
+use Rattle.std.proofs.Common.{◌≡◌, ◌+◌, ◌≤◌, ◌<ℤ◌, ◌⊎◌, ◌++◌, ℤ, ap, ◌∙◌, IsTrue, List, None, Ok, Err, Option, Result, Some, [], ◌∷◌, append-nil, append_assoc, arith, inl, inr, refl, subst, sym, true, ℕ}
 use Rattle.std.specs.List.{AllZip}
 use Rattle.std.proofs.lemmas.Bool.{cases_Bool}
 use Rattle.sqlite.specs.Given.{HasBegun, HasGiven, Returns}
@@ -8,7 +8,7 @@ use Rattle.sqlite.specs.Held.{Held, state}
 use Rattle.sqlite.specs.Listing.{if_select, is_select, listing_schema, reads_listing, understood}
 use Rattle.sqlite.specs.Order.{Row}
 use Rattle.sqlite.specs.Schema.{Schema}
-use Rattle.sqlite.specs.State.{CommitsShowing, FailsToQuery, FailsToShow, IsNotRun, IsRolledBack, IsUnchanged, Shown, ShowsRows, State, Survives}
+use Rattle.sqlite.specs.State.{CommitsShowing, FailsToQuery, FailsToShow, IsNotRun, IsRolledBack, IsUnchanged, Shown, State, Survives}
 use Rattle.sqlite.specs.Store.{Ghosts}
 use Rattle.sqlite.specs.Term.{Term}
 use Rattle.sqlite.specs.Tree.{Trees, rowid}

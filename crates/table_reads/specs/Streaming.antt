@@ -1,13 +1,11 @@
 -- Rows that are read one at a time.
-use Rattle.std.specs.Prelude.{◌<ℤ◌, ℕ, ℤ, ⊤, Bool, List, ◌++◌, All, Option, Some, None}
+use Rattle.std.specs.Prelude.{◌<ℤ◌, ℕ, ℤ, ⊤, List, ◌++◌, Option, Some, None}
 use Rattle.std.specs.List.{AllZip}
 use Rattle.sqlite.specs.Given.{Returns}
 use Rattle.sqlite.specs.Listing.{understood}
 use Rattle.sqlite.specs.Order.{Row}
 use Rattle.sqlite.specs.Schema.{Schema}
-use Rattle.sqlite.specs.Term.{Term}
 use Rattle.table_reads.specs.Rowids.{AreRising, IsRisingFrom}
-use Rattle.table_reads.specs.Whole.{AreShown}
 
 -- In no schema does the text have a RETURNING clause. Only a statement with this clause both writes
 -- and returns rows.

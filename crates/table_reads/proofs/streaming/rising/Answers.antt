@@ -1,4 +1,4 @@
-use Rattle.std.proofs.Common.{◌≡◌, IfErr, List, [], arith, rules, subst}
+use Rattle.std.proofs.Common.{◌≡◌, IfErr, [], arith, rules, subst}
 use Rattle.sqlite.specs.Given.{IsRefused}
 use Rattle.sqlite.specs.Held.{state}
 use Rattle.sqlite.specs.State.{CommitsShowing, HasCleanDisk, Survives}
