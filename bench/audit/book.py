@@ -49,6 +49,7 @@ COLUMNS = {
     "blank": ("serial", "lot", "state", "record", "batch"),
     "sums": ("lots", "total", "free", "good", "running", "spoiled", "discarded"),
 }
+DIGITS = "serial", "first", "mark"
 MOST = {"product": 256, "lot": 4096, "batch": 4096}
 Line = tuple[Any, ...]
 
@@ -160,7 +161,8 @@ def text_of(line: Line) -> str:
 
 
 def object_of(line: Line) -> dict[str, Any]:
-    return {"line": line[0], **dict(zip(COLUMNS[line[0]], line[1:], strict=True))}
+    cells = zip(COLUMNS[line[0]], line[1:], strict=True)
+    return {"line": line[0], **{key: str(cell) if key in DIGITS and cell is not None else cell for key, cell in cells}}
 
 
 def difference(program: str, path: pathlib.Path, words: list[str], wanted: Wanted, is_json: bool) -> str | None:

@@ -3,7 +3,7 @@ import hashlib
 import html.parser
 import sqlite3
 
-TAGS = {"html", "head", "meta", "title", "style", "body", "h1", "h2", "p", "div", "table", "tr", "th", "td", "code"}
+TAGS = {"html", "head", "meta", "title", "style", "body", "h1", "h2", "p", "div", "table", "thead", "tr", "th", "td", "code"}
 SHOWN = "title", "h1", "h2", "p", "code"
 STATES = "waiting", "running", "failed", "withdrawn", "good"
 ACCOUNT = "records", *STATES, "sessions", "spoiled"

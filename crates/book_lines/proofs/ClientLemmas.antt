@@ -1,16 +1,18 @@
 -- Lemmas about clients and their rows: adding the clients of one table after another gives all
 -- clients, and the rows that are keyed by the position of a client are the rows of this client.
-use Rattle.std.proofs.Common.{◌≡◌, ◌==◌, ◌&&◌, ℕ, zero, suc, Bool, true, false, cond, List, [], ◌∷◌, ◌++◌, Some, fold, length, map, max, inl, inr, refl, sym, ap, ◌∙◌, arith}
+use Rattle.std.proofs.Common.{◌≡◌, ◌==◌, ◌&&◌, ◌+◌, ℕ, zero, suc, Bool, true, false, cond, List, [], ◌∷◌, ◌++◌, None, Some, fold, is_some, length, map, max, inl, inr, refl, sym, ap, ◌∙◌, arith}
 use Rattle.std.specs.Prelude.{bytes_eq, filter, find, option_map, slice_get, unwrap_or}
-use Rattle.std.specs.List.{position_or_len}
-use Rattle.std.proofs.lemmas.Bool.{cases_Bool}
+use Rattle.std.specs.List.{list_any, position_or_len}
+use Rattle.std.specs.Map.{update}
+use Rattle.std.proofs.lemmas.Bool.{cases_Bool, or_parts}
 use Rattle.std.proofs.lemmas.Bool.Decides.{nat_tests}
 use Rattle.std.proofs.lemmas.List.{length-map}
 use Rattle.std.proofs.lemmas.List.Elements.{filter_agree}
 use Rattle.std.proofs.lemmas.List.Sums.{fold-append}
 use Rattle.store_data.specs.Groups.{Distinct, first_appearances, with_key}
 use Rattle.store_data.proofs.GroupLemmas.{place_at, same-bytes_eq}
-use Rattle.book_lines.specs.Keyed.{AreKeyed, place_of}
+use Rattle.step_laws.proofs.BlankSums.{bytes_eq_either}
+use Rattle.book_lines.specs.Keyed.{AreKeyed, found_at, place_of}
 
 module _ (ms es rs xs ys zs : List (List ℕ)) where
   pub clients_joined : xs ≡ fold with_key [] ms → ys ≡ fold with_key xs es → zs ≡ fold with_key ys rs → zs ≡ first_appearances (ms ++ es ++ rs)
@@ -43,6 +45,69 @@ is_at names place name k once here = elim (cases_Bool (bytes_eq k name)) [
       let so : (place_of names k == place) ≡ true = grind (arith, nat_tests) in
       so ∙ sym hit
   | inr miss ↦ not_found (bytes_eq k) names place name here miss ∙ sym miss
+]
+
+none_is_length : (p : List ℕ → Bool) (xs : List (List ℕ)) → list_any p xs ≡ false → position_or_len p xs ≡ length xs
+none_is_length p [] none = refl
+none_is_length p (x ∷ xs) none =
+    let parts = or_parts (p x) (list_any p xs) none in
+    let rest : position_or_len p xs ≡ length xs = none_is_length p xs parts.1 in
+    rw parts.0 (grind (arith, nat_tests))
+
+-- A client that is appended is at the end, and all others stay.
+found_in_rest : (p : List ℕ → Bool) (x : List ℕ) (xs : List (List ℕ))
+    → cond (list_any p (x ∷ xs)) (Some (position_or_len p (x ∷ xs))) None ≡ cond (p x) (Some 0) (option_map (λ n. 1 + n) (cond (list_any p xs) (Some (position_or_len p xs)) None))
+found_in_rest p x xs = elim (cases_Bool (p x)) [
+  | inl hit ↦ rw hit refl
+  | inr miss ↦ elim (cases_Bool (list_any p xs)) [
+    | inl any ↦ rw (miss, any) refl
+    | inr none ↦ rw (miss, none) refl
+  ]
+]
+
+found_pushed : (p : List ℕ → Bool) (xs : List (List ℕ)) (y : List ℕ)
+    → cond (list_any p (xs ++ y ∷ [])) (Some (position_or_len p (xs ++ y ∷ []))) None
+    ≡ cond (list_any p xs) (Some (position_or_len p xs)) (cond (p y) (Some (length xs)) None)
+found_pushed p [] y = elim (cases_Bool (p y)) [
+  | inl hit ↦ rw hit refl
+  | inr miss ↦ rw miss refl
+]
+found_pushed p (x ∷ xs) y =
+    found_in_rest p x (xs ++ y ∷ []) ∙ ap (λ o. cond (p x) (Some 0) (option_map (λ n. 1 + n) o)) (found_pushed p xs y) ∙ elim (cases_Bool (p x)) [
+      | inl hit ↦ rw hit refl
+      | inr miss ↦ elim (cases_Bool (list_any p xs)) [
+        | inl any ↦ rw (miss, any) refl
+        | inr none ↦ elim (cases_Bool (p y)) [
+          | inl last ↦ rw (miss, none, last) (ap Some (omega arith))
+          | inr other ↦ rw (miss, none, other) refl
+        ]
+      ]
+    ]
+
+-- the places after `k`, which wasn't among `names`, is appended
+pub places_pushed : (names : List (List ℕ)) (k q : List ℕ) → list_any (bytes_eq k) names ≡ false
+    → update bytes_eq (found_at names) k (Some (length names)) q ≡ found_at (names ++ k ∷ []) q
+places_pushed names k q absent = elim (cases_Bool (bytes_eq k q)) [
+  | inl same ↦
+      let e : k ≡ q = same-bytes_eq k q same in
+      let none : list_any (bytes_eq q) names ≡ false = sym (ap (λ m. list_any (bytes_eq m) names) e) ∙ absent in
+      let hit : bytes_eq q k ≡ true = bytes_eq_either q k ∙ same in
+      ap (λ b. cond b (Some (length names)) (found_at names q)) same ∙ sym (found_pushed (bytes_eq q) names k ∙ rw (none, hit) refl)
+  | inr other ↦
+      let miss : bytes_eq q k ≡ false = bytes_eq_either q k ∙ other in
+      ap (λ b. cond b (Some (length names)) (found_at names q)) other ∙ sym (found_pushed (bytes_eq q) names k ∙ rw miss refl)
+]
+
+pub is_some_found : (names : List (List ℕ)) (k : List ℕ) → is_some (found_at names k) ≡ list_any (bytes_eq k) names
+is_some_found names k = elim (cases_Bool (list_any (bytes_eq k) names)) [
+  | inl any ↦ ap (λ b. is_some (cond b (Some (place_of names k)) None)) any ∙ sym any
+  | inr none ↦ ap (λ b. is_some (cond b (Some (place_of names k)) None)) none ∙ sym none
+]
+
+pub place_or_length : (names : List (List ℕ)) (k : List ℕ) → unwrap_or (found_at names k) (length names) ≡ place_of names k
+place_or_length names k = elim (cases_Bool (list_any (bytes_eq k) names)) [
+  | inl any ↦ ap (λ b. unwrap_or (cond b (Some (place_of names k)) None) (length names)) any
+  | inr none ↦ ap (λ b. unwrap_or (cond b (Some (place_of names k)) None) (length names)) none ∙ sym (none_is_length (bytes_eq k) names none)
 ]
 
 -- ---- the rows of a client

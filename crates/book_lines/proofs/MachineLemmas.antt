@@ -8,7 +8,7 @@ use Rattle.job_facts.specs.Contents.{Entry, Mark}
 use Rattle.job_facts.specs.States.{is_running}
 use Rattle.table_rows.specs.Tables.{StoredSession, Tables}
 use Rattle.book_lines.specs.Keyed.{AreKeyed, place_of}
-use Rattle.book_lines.specs.Lines.{Cell, number_cell, optional_cell, word_cell}
+use Rattle.book_lines.specs.Lines.{Cell, number_cell, optional_cell, optional_digits_cell, word_cell}
 use Rattle.book_lines.specs.Machines.{boot_above, boot_by, boot_of, clients_of, is_kept_for, machine_line, next_boot, running_on, upto_of}
 use Rattle.book_lines.proofs.ClientLemmas.{count_is, find_is, first_is, most_is}
 
@@ -52,7 +52,7 @@ module _
         ∙ ap (λ (o : Option ℕ). fold (λ last (e : Entry). max last (boot_by client e)) (boot_of (unwrap_or o 0)) t.replies) is)
 
     pub line_is : (name running upto many boot : Cell) (session mark : Option ℕ) (kept : ℕ) (next : Option ℕ)
-        → name ≡ word_cell (codes "name") client → running ≡ optional_cell (codes "running") session → upto ≡ optional_cell (codes "mark") mark
+        → name ≡ word_cell (codes "name") client → running ≡ optional_cell (codes "running") session → upto ≡ optional_digits_cell (codes "mark") mark
         → many ≡ number_cell (codes "kept") kept → boot ≡ optional_cell (codes "boot") next
         → session ≡ option_map (λ (k : ℕ × StoredSession). k.1.id) (find (λ (k : ℕ × StoredSession). is_running k.1.state) its_sessions)
         → mark ≡ option_map (λ (k : ℕ × Mark). k.1.upto) (slice_get its_marks 0)
@@ -62,7 +62,7 @@ module _
     line_is name running upto many boot session mark kept next name_so running_so upto_so many_so boot_so session_is mark_so kept_so next_is =
         let marked : mark ≡ upto_of t client = mark_so ∙ mark_is in
         let running_cell : running ≡ optional_cell (codes "running") (running_on t client) = running_so ∙ ap (optional_cell (codes "running")) (session_is ∙ running_is) in
-        let mark_cell : upto ≡ optional_cell (codes "mark") (upto_of t client) = upto_so ∙ ap (optional_cell (codes "mark")) marked in
+        let mark_cell : upto ≡ optional_digits_cell (codes "mark") (upto_of t client) = upto_so ∙ ap (optional_digits_cell (codes "mark")) marked in
         let kept_cell : many ≡ number_cell (codes "kept") (length (filter (is_kept_for client) t.replies)) = many_so ∙ ap (number_cell (codes "kept")) (kept_so ∙ kept_is) in
         let boot_cell : boot ≡ optional_cell (codes "boot") (next_boot t client) = boot_so ∙ ap (optional_cell (codes "boot")) (next_is ∙ boot_is mark marked) in
         cc

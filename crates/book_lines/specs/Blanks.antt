@@ -14,7 +14,7 @@ use Rattle.audit_order.specs.Order.{lots_of}
 use Rattle.book_lines.specs.declared.blank_state.BlankState.{BlankState}
 use Rattle.book_lines.specs.declared.blank_state.BlankState.TheVariants as blank
 use Rattle.book_lines.specs.declared.form.Form.{Form}
-use Rattle.book_lines.specs.Lines.{Line, line_text, name_cell, number_cell, word_cell}
+use Rattle.book_lines.specs.Lines.{Line, digits_cell, line_text, name_cell, number_cell, word_cell}
 
 -- ---- charged blanks
 
@@ -88,7 +88,7 @@ batch_for t s = option_map (λ (b : StoredBatch). b.name) (slice_get t.batches (
 abbrev pub blank_line : Tables → Charge → Line
 blank_line t c = record {
   kind = codes "blank";
-  cells = number_cell (codes "serial") c.blank.serial ∷ word_cell (codes "lot") c.blank.lot ∷ word_cell (codes "state") (state_word (stands_on c.on))
+  cells = digits_cell (codes "serial") c.blank.serial ∷ word_cell (codes "lot") c.blank.lot ∷ word_cell (codes "state") (state_word (stands_on c.on))
       ∷ name_cell (codes "record") (option_and_then (record_for t) c.on) ∷ name_cell (codes "batch") (option_and_then (batch_for t) c.on) ∷ [];
 }
 

@@ -6,7 +6,7 @@ use Rattle.table_rows.specs.Tables.{StoredBatch, StoredRecord, StoredSession, Ta
 use Rattle.audit_laws.specs.Audited.{is_session_at, words_of}
 use Rattle.book_lines.specs.declared.form.Form.{Form}
 use Rattle.book_lines.specs.Blanks.{stands_by, state_word}
-use Rattle.book_lines.specs.Lines.{Line, lines_by, number_cell, status_cell, word_cell}
+use Rattle.book_lines.specs.Lines.{Line, digits_cell, lines_by, number_cell, status_cell, word_cell}
 
 -- a card: a record, one of its sessions, and the last status word of the session, if it has one
 pub record Card : Type 0 where
@@ -31,7 +31,7 @@ abbrev pub card_line : Card → Line
 card_line c = record {
   kind = codes "card";
   cells = word_cell (codes "record") c.rec.name ∷ number_cell (codes "session") c.session.id ∷ word_cell (codes "machine") c.session.machine
-      ∷ number_cell (codes "serial") c.session.serial ∷ word_cell (codes "state") (state_word (stands_by c.session.state))
+      ∷ digits_cell (codes "serial") c.session.serial ∷ word_cell (codes "state") (state_word (stands_by c.session.state))
       ∷ number_cell (codes "words") c.session.words ∷ status_cell (codes "last") c.last ∷ [];
 }
 

@@ -6,10 +6,12 @@ use Rattle.hex.specs.Hex.{encode_upper}
 use Rattle.book_lines.specs.declared.form.Form.{Form}
 use Rattle.book_lines.specs.declared.form.Form.TheVariants.{Columns, Json}
 
--- the value of a cell: nothing, a number, a word of plain characters, or the status word of a card
+-- the value of a cell: nothing, a number, a number that can be 2^53 or higher, a word of plain
+-- characters, or the status word of a card
 pub data Shown : Type 0 where
   Nothing : Shown
   Number : (n : ℕ) → Shown
+  Digits : (n : ℕ) → Shown
   Word : (word : List ℕ) → Shown
   Status : (sw : ℕ) → Shown
 
@@ -24,6 +26,9 @@ pub record Line : Type 0 where
 abbrev pub number_cell : List ℕ → ℕ → Cell
 number_cell key n = record { key = key; shown = Number n }
 
+abbrev pub digits_cell : List ℕ → ℕ → Cell
+digits_cell key n = record { key = key; shown = Digits n }
+
 abbrev pub word_cell : List ℕ → List ℕ → Cell
 word_cell key word = record { key = key; shown = Word word }
 
@@ -34,6 +39,10 @@ name_cell key (Some name) = word_cell key name
 abbrev pub optional_cell : List ℕ → Option ℕ → Cell
 optional_cell key None = record { key = key; shown = Nothing }
 optional_cell key (Some n) = number_cell key n
+
+abbrev pub optional_digits_cell : List ℕ → Option ℕ → Cell
+optional_digits_cell key None = record { key = key; shown = Nothing }
+optional_digits_cell key (Some n) = digits_cell key n
 
 abbrev pub status_cell : List ℕ → Option ℕ → Cell
 status_cell key None = record { key = key; shown = Nothing }
@@ -49,17 +58,23 @@ status_text sw = encode_upper (sw / 256 ∷ sw % 256 ∷ [])
 abbrev pub column_text : Shown → List ℕ
 column_text Nothing = codes "-"
 column_text (Number n) = decimal n
+column_text (Digits n) = decimal n
 column_text (Word word) = word
 column_text (Status sw) = status_text sw
 
 -- ---- JSON (RFC 8259)
 
--- the JSON value of a cell; a word has only plain characters, which need no escape
+abbrev quoted : List ℕ → List ℕ
+quoted text = codes "\"" ++ text ++ codes "\""
+
+-- The JSON value of a cell. A word has only plain characters, which need no escape. A number that
+-- can be 2^53 or higher is a string, because many JSON readers would round it.
 abbrev pub member_text : Shown → List ℕ
 member_text Nothing = codes "null"
 member_text (Number n) = decimal n
-member_text (Word word) = codes "\"" ++ word ++ codes "\""
-member_text (Status sw) = codes "\"" ++ status_text sw ++ codes "\""
+member_text (Digits n) = quoted (decimal n)
+member_text (Word word) = quoted word
+member_text (Status sw) = quoted (status_text sw)
 
 -- ---- both forms
 

@@ -9,7 +9,7 @@ use Rattle.table_rows.specs.Tables.{StoredBatch, StoredBlank, StoredLot, Tables}
 use Rattle.audit_laws.specs.Audited.{opened_rows}
 use Rattle.book_lines.specs.declared.form.Form.{Form}
 use Rattle.book_lines.specs.Limits.{limit_line, limits_in, size_line}
-use Rattle.book_lines.specs.Lines.{Line, line_text, lines_by, number_cell, word_cell}
+use Rattle.book_lines.specs.Lines.{Line, digits_cell, line_text, lines_by, number_cell, word_cell}
 
 -- ---- products
 
@@ -33,7 +33,7 @@ charged_in l blanks = filter (λ (b : StoredBlank). is_in b.serial l.lot) blanks
 abbrev pub lot_line : List StoredBlank → StoredLot → Line
 lot_line blanks l = record {
   kind = codes "lot";
-  cells = word_cell (codes "name") l.lot.name ∷ word_cell (codes "product") l.lot.product ∷ number_cell (codes "first") l.lot.first ∷ number_cell (codes "count") l.lot.count
+  cells = word_cell (codes "name") l.lot.name ∷ word_cell (codes "product") l.lot.product ∷ digits_cell (codes "first") l.lot.first ∷ number_cell (codes "count") l.lot.count
       ∷ number_cell (codes "free") (l.lot.count - length (charged_in l blanks)) ∷ number_cell (codes "used") (length (opened_rows (charged_in l blanks)))
       ∷ number_cell (codes "discarded") l.discarded ∷ [];
 }

@@ -7,7 +7,7 @@ use Rattle.job_facts.specs.States.{running_session}
 use Rattle.table_rows.specs.Keys.{is_running_on}
 use Rattle.table_rows.specs.Tables.{StoredSession, Tables}
 use Rattle.book_lines.specs.declared.form.Form.{Form}
-use Rattle.book_lines.specs.Lines.{Line, lines_by, number_cell, optional_cell, word_cell}
+use Rattle.book_lines.specs.Lines.{Line, lines_by, number_cell, optional_cell, optional_digits_cell, word_cell}
 
 -- ---- clients
 
@@ -57,7 +57,7 @@ IsNewBoot c client boot =
 abbrev pub machine_line : Tables → List ℕ → Line
 machine_line t client = record {
   kind = codes "machine";
-  cells = word_cell (codes "name") client ∷ optional_cell (codes "running") (running_on t client) ∷ optional_cell (codes "mark") (upto_of t client)
+  cells = word_cell (codes "name") client ∷ optional_cell (codes "running") (running_on t client) ∷ optional_digits_cell (codes "mark") (upto_of t client)
       ∷ number_cell (codes "kept") (length (filter (is_kept_for client) t.replies)) ∷ optional_cell (codes "boot") (next_boot t client) ∷ [];
 }
 

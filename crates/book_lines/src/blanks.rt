@@ -20,7 +20,7 @@ ghost use Rattle.book_lines.specs.Keyed.{AreKeyed};
 ghost use Rattle.book_lines.specs.Lines.{line_text};
 
 use crate::blank_state::BlankState;
-use crate::cell::{Cell, name, number, word};
+use crate::cell::{Cell, digits, name, number, word};
 use crate::charge::Charge;
 use crate::form::Form;
 use crate::keyed::{Keyed, by_serial, session_on};
@@ -270,7 +270,7 @@ pub fn blank_cells<'a>(tables: &'a Tables, charge: &Charge<'a>) -> [Cell<'a>; 5]
 {
     let blank = charge.blank;
     [
-        number("serial", blank.serial),
+        digits("serial", blank.serial),
         word("lot", &blank.lot),
         word("state", charge.stands().word().as_bytes()),
         name("record", record_on(tables, charge)),

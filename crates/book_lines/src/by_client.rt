@@ -1,15 +1,14 @@
 //! The rows that belong to clients, for look-ups by client.
-ghost use Rattle.std.specs.Prelude.{◌≡◌, [], ℕ, IfOk, List, OnOk, fold, map};
-ghost use Rattle.store_data.specs.Groups.{first_appearances, with_key};
+ghost use Rattle.std.specs.Prelude.{◌≡◌, ℕ, IfOk, List, map};
 ghost use Rattle.job_facts.specs.Contents.{Entry, Mark};
 ghost use Rattle.table_rows.specs.Tables.{StoredSession as SessionValue};
 ghost use Rattle.book_lines.specs.Keyed.{AreKeyed, place_of};
 ghost use Rattle.book_lines.specs.Machines.{clients_of};
 
-use crate::client::{Client, OfClient};
+use crate::client::OfClient;
+use crate::clients::{Clients, clients_of, place_of};
 use crate::keyed::Keyed;
 use audit_order::sort_rows;
-use indexmap::IndexSet;
 use std::alloc::{AllocError, Global};
 use table_rows::{StoredMark, StoredReply, StoredSession, Tables};
 
@@ -19,16 +18,16 @@ use table_rows::{StoredMark, StoredReply, StoredSession, Tables};
 pub(crate) struct ByClient<'a> {
     // The clauses name the rows of these tables.
     pub(crate) tables: &'a Tables,
-    pub(crate) clients: IndexSet<Client<'a>>,
+    pub(crate) clients: Clients<'a>,
     pub(crate) sessions: Vec<Keyed<'a, StoredSession>>,
     pub(crate) replies: Vec<Keyed<'a, StoredReply>>,
     pub(crate) marks: Vec<Keyed<'a, StoredMark>>,
-    ghost clients_are: { clients.keys ≡ clients_of tables.now },
-    ghost sessions_are: { AreKeyed (λ (s : SessionValue). place_of clients.keys s.machine)
+    ghost clients_are: { clients.names.items ≡ clients_of tables.now },
+    ghost sessions_are: { AreKeyed (λ (s : SessionValue). place_of clients.names.items s.machine)
         tables.now.sessions sessions.items },
-    ghost replies_are: { AreKeyed (λ (e : Entry). place_of clients.keys e.client)
+    ghost replies_are: { AreKeyed (λ (e : Entry). place_of clients.names.items e.client)
         tables.now.replies replies.items },
-    ghost marks_are: { AreKeyed (λ (m : Mark). place_of clients.keys m.client)
+    ghost marks_are: { AreKeyed (λ (m : Mark). place_of clients.names.items m.client)
         tables.now.marks marks.items },
 }
 
@@ -55,51 +54,16 @@ pub(crate) fn by_client(alloc: Global, tables: &Tables) -> Result<ByClient<'_>, 
     })
 }
 
-// ---- clients
-
-// Returns all clients, each once.
-fn clients_of(alloc: Global, tables: &Tables) -> Result<IndexSet<Client<'_>>, AllocError>
-    ensures { IfOk result (λ clients. clients.keys ≡ clients_of tables.now) }
-{
-    let mut clients = IndexSet::new(alloc);
-    add_clients(&mut clients, &tables.sessions)?;
-    add_clients(&mut clients, &tables.replies)?;
-    add_clients(&mut clients, &tables.marks)?;
-    Ok(clients)
-}
-
-// Adds the clients of `rows`.
-fn add_clients<'a, T: OfClient>(
-    clients: &mut IndexSet<Client<'a>>,
-    rows: &'a [T],
-) -> Result<(), AllocError>
-    ensures { OnOk result
-        (clients.new.keys ≡ fold with_key clients.old.keys (map T.client rows.now)) }
-{
-    for row in rows {
-        add_client(clients, row.client())?;
-    }
-    Ok(())
-}
-
-// Adds the client `name`, unless `clients` already contains it.
-fn add_client<'a>(clients: &mut IndexSet<Client<'a>>, name: &'a [u8]) -> Result<(), AllocError>
-    ensures { OnOk result (clients.new.keys ≡ with_key clients.old.keys name.now) }
-{
-    clients.insert(Client { name })?;
-    Ok(())
-}
-
 // ---- keys
 
 // Returns `rows` keyed by the positions of their clients, and sorted by their keys.
 fn keyed_by<'a, T: OfClient>(
     alloc: Global,
-    clients: &IndexSet<Client<'a>>,
+    clients: &Clients<'_>,
     rows: &'a [T],
 ) -> Result<Vec<Keyed<'a, T>>, AllocError>
     ensures { IfOk result (λ keyed.
-        AreKeyed (λ row. place_of clients.now.keys (T.client row)) rows.now keyed.items) }
+        AreKeyed (λ row. place_of clients.now.names.items (T.client row)) rows.now keyed.items) }
 {
     let mut keyed = places(alloc, clients, rows)?;
     sort_rows(&mut keyed)?;
@@ -109,11 +73,11 @@ fn keyed_by<'a, T: OfClient>(
 // Returns `rows` keyed by the positions of their clients, in the order of `rows`.
 fn places<'a, T: OfClient>(
     alloc: Global,
-    clients: &IndexSet<Client<'a>>,
+    clients: &Clients<'_>,
     rows: &'a [T],
 ) -> Result<Vec<Keyed<'a, T>>, AllocError>
     ensures { IfOk result (λ keyed. keyed.items
-        ≡ map (λ row. (place_of clients.now.keys (T.client row), row)) rows.now) }
+        ≡ map (λ row. (place_of clients.now.names.items (T.client row), row)) rows.now) }
 {
     let mut keyed = Vec::with_capacity(alloc, rows.len())?;
     for row in rows {
@@ -121,12 +85,4 @@ fn places<'a, T: OfClient>(
         keyed.push(Keyed { number, row })?;
     }
     Ok(keyed)
-}
-
-// Returns the position of the client `name`, or the number of clients if `name` isn't a client.
-fn place_of<'a>(clients: &IndexSet<Client<'a>>, name: &'a [u8]) -> u64
-    ensures { result ≡ place_of clients.now.keys name.now }
-{
-    let place = clients.get_index_of(&Client { name });
-    place.unwrap_or(clients.len()) as u64
 }

@@ -13,7 +13,7 @@ ghost use Rattle.book_lines.specs.Lines.{line_text, lines_by};
 
 use crate::blank_state::stands_by;
 use crate::card::{Card, card_of};
-use crate::cell::{Cell, number, status, word};
+use crate::cell::{Cell, digits, number, status, word};
 use crate::form::Form;
 use crate::keyed::{Keyed, by_place};
 use crate::line::push_line;
@@ -183,7 +183,7 @@ pub fn card_cells<'a>(card: &Card<'a>) -> [Cell<'a>; 7]
         word("record", &rec.name),
         number("session", session.id),
         word("machine", &session.machine),
-        number("serial", session.serial),
+        digits("serial", session.serial),
         word("state", stands_by(session.state).word().as_bytes()),
         number("words", session.words),
         status("last", card.last),

@@ -1,7 +1,8 @@
 //! A cell of a line: a key and a value.
 ghost use Rattle.std.specs.Prelude.{◌≡◌, option_map};
-ghost use Rattle.book_lines.specs.Lines.{Nothing, name_cell, number_cell, optional_cell};
-ghost use Rattle.book_lines.specs.Lines.{status_cell, word_cell};
+ghost use Rattle.book_lines.specs.Lines.{Nothing, digits_cell, name_cell, number_cell};
+ghost use Rattle.book_lines.specs.Lines.{optional_cell, optional_digits_cell, status_cell};
+ghost use Rattle.book_lines.specs.Lines.{word_cell};
 
 use crate::shown::Shown;
 use std::marker::Model;
@@ -24,13 +25,23 @@ impl<'a> Model for Cell<'a> {
     ghost view = { λ c. record { key = c.key.now; shown = shown_of c.shown } };
 }
 
-/// Returns a cell with a number.
+/// Returns a cell with a number below 2^53.
 pub(crate) fn number(key: &str, number: u64) -> Cell<'_>
     ensures { result ≡ number_cell key.now number }
 {
     Cell {
         key,
         shown: Shown::Number(number),
+    }
+}
+
+/// Returns a cell with a number that can be 2^53 or higher.
+pub(crate) fn digits(key: &str, number: u64) -> Cell<'_>
+    ensures { result ≡ digits_cell key.now number }
+{
+    Cell {
+        key,
+        shown: Shown::Digits(number),
     }
 }
 
@@ -54,7 +65,7 @@ pub(crate) fn name<'a>(key: &'a str, name: Option<&'a [u8]>) -> Cell<'a>
     }
 }
 
-/// Returns a cell with a number, or an empty cell if `number` is `None`.
+/// Returns a cell with a number below 2^53, or an empty cell if `number` is `None`.
 pub(crate) fn optional(key: &str, number: Option<u64>) -> Cell<'_>
     ensures { result ≡ optional_cell key.now number }
 {
@@ -64,6 +75,16 @@ pub(crate) fn optional(key: &str, number: Option<u64>) -> Cell<'_>
             key,
             shown: Shown::Number(number),
         },
+    }
+}
+
+/// Returns a cell with a number that can be 2^53 or higher, or an empty cell if `number` is `None`.
+pub(crate) fn optional_digits(key: &str, number: Option<u64>) -> Cell<'_>
+    ensures { result ≡ optional_digits_cell key.now number }
+{
+    match number {
+        None => nothing(key),
+        Some(number) => digits(key, number),
     }
 }
 

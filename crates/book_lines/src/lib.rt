@@ -9,6 +9,7 @@ mod cards;
 mod cell;
 mod charge;
 mod client;
+mod clients;
 mod counts;
 mod form;
 mod keyed;

@@ -80,6 +80,7 @@ fn push_column(text: &mut Vec<u8>, cell: &Cell<'_>) -> Result<(), AllocError>
     match cell.shown {
         Shown::Nothing => text.extend_from_slice(b"-"),
         Shown::Number(number) => push_number(text, number),
+        Shown::Digits(number) => push_number(text, number),
         Shown::Word(word) => text.extend_from_slice(word),
         Shown::Status(sw) => push_status(text, sw),
     }
@@ -92,8 +93,9 @@ fn push_member(text: &mut Vec<u8>, cell: &Cell<'_>) -> Result<(), AllocError>
     match cell.shown {
         Shown::Nothing => text.extend_from_slice(b"null"),
         Shown::Number(number) => push_number(text, number),
-        Shown::Word(word) => push_three(text, b"\"", word, b"\""),
-        Shown::Status(sw) => push_quoted(text, sw),
+        Shown::Digits(_) => push_quoted(text, cell),
+        Shown::Word(_) => push_quoted(text, cell),
+        Shown::Status(_) => push_quoted(text, cell),
     }
 }
 
@@ -122,13 +124,13 @@ pub fn push_status(text: &mut Vec<u8>, sw: u16) -> Result<(), AllocError>
     text.extend_from_slice(digits.as_bytes())
 }
 
-// Appends the status word `sw` in quotation marks.
-fn push_quoted(text: &mut Vec<u8>, sw: u16) -> Result<(), AllocError>
-    ensures { OnOk result
-        (text.new.items ≡ text.old.items ++ codes "\"" ++ status_text sw ++ codes "\"") }
+// Appends the value of `cell` as it is shown in columns, in quotation marks.
+fn push_quoted(text: &mut Vec<u8>, cell: &Cell<'_>) -> Result<(), AllocError>
+    ensures { OnOk result (text.new.items
+        ≡ text.old.items ++ codes "\"" ++ column_text cell.now.shown ++ codes "\"") }
 {
     text.extend_from_slice(b"\"")?;
-    push_status(text, sw)?;
+    push_column(text, cell)?;
     text.extend_from_slice(b"\"")
 }
 

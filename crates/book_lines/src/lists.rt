@@ -11,7 +11,7 @@ ghost use Rattle.book_lines.specs.Lines.{line_text, lines_by};
 ghost use Rattle.book_lines.specs.Lists.{batch_line, charged_in, list_text, lot_line};
 ghost use Rattle.book_lines.specs.Lists.{open_or_closed, product_line, yes_or_no};
 
-use crate::cell::{Cell, number, word};
+use crate::cell::{Cell, digits, number, word};
 use crate::form::Form;
 use crate::limits::{push_limits, push_size};
 use crate::line::push_line;
@@ -117,7 +117,7 @@ fn push_lot(
     let cells = [
         word("name", &lot.name),
         word("product", &lot.product),
-        number("first", lot.low_serial),
+        digits("first", lot.low_serial),
         number("count", u64::from(lot.amount)),
         number("free", free(lot, charged)),
         number("used", used(charged)),

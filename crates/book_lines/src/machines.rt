@@ -11,7 +11,7 @@ ghost use Rattle.book_lines.specs.Machines.{IsMachine, boot_above, boot_of, clie
 ghost use Rattle.book_lines.specs.Machines.{machine_line, machines_text};
 
 use crate::by_client::{ByClient, by_client};
-use crate::cell::{number, optional, word};
+use crate::cell::{number, optional, optional_digits, word};
 use crate::form::Form;
 use crate::keyed::Keyed;
 use crate::line::push_line;
@@ -61,7 +61,7 @@ fn push_machines(text: &mut Vec<u8>, form: Form, rows: &ByClient<'_>) -> Result<
     ensures { OnOk result (text.new.items ≡ text.old.items
         ++ lines_by form (machine_line rows.now.tables.now) (clients_of rows.now.tables.now)) }
 {
-    for (place, client) in rows.clients.as_slice().iter().enumerate() {
+    for (place, client) in rows.clients.names.iter().enumerate() {
         push_machine(text, form, rows, place, client.name)?;
     }
     Ok(())
@@ -75,7 +75,7 @@ fn push_machine(
     place: usize,
     client: &[u8],
 ) -> Result<(), AllocError>
-    requires { slice_get rows.now.clients.keys place ≡ Some client.now }
+    requires { slice_get rows.now.clients.names.items place ≡ Some client.now }
     ensures { OnOk result (text.new.items ≡ text.old.items
         ++ line_text form (machine_line rows.now.tables.now client.now)) }
 {
@@ -85,7 +85,7 @@ fn push_machine(
     let cells = [
         word("name", client),
         optional("running", running_in(sessions)),
-        optional("mark", upto),
+        optional_digits("mark", upto),
         number("kept", replies.len() as u64),
         optional("boot", next_boot(upto.unwrap_or(0), replies)),
     ];

@@ -2,7 +2,7 @@
 use Rattle.std.specs.Prelude.{◌==◌, ◌&&◌, ℕ, Bool, not, if◌then◌else◌, List, [], ◌∷◌, ◌++◌, codes, flat_map}
 use Rattle.std.specs.Fmt.{decimal}
 use Rattle.std.specs.List.{list_all}
-use Rattle.book_lines.specs.Lines.{Cell, Shown, Nothing, Number, Word, Status, status_text}
+use Rattle.book_lines.specs.Lines.{Cell, Shown, Nothing, Number, Digits, Word, Status, status_text}
 
 -- ---- text
 
@@ -35,6 +35,7 @@ between before text after = before ++ text ++ after
 abbrev pub shown_html : Shown → List ℕ
 shown_html Nothing = codes "-"
 shown_html (Number n) = decimal n
+shown_html (Digits n) = decimal n
 shown_html (Word word) = escaped word
 shown_html (Status sw) = status_text sw
 

@@ -52,12 +52,13 @@ bar_html b = codes "<div class=\"bar\">" ++ parts_html b ++ codes "</div>\n"
 
 -- ---- tables
 
+-- A browser repeats the headings of a table on each printed page, because they are in `thead`.
 unfoldable pub table_html : List ℕ → List ℕ → List ℕ
 table_html heads rows = heads ++ rows ++ codes "</table>\n"
 
 unfoldable pub account_heads : List ℕ
 account_heads =
-    codes "<table>\n<tr><th>records</th><th class=\"waiting\">waiting</th><th class=\"running\">running</th><th class=\"failed\">failed</th><th class=\"withdrawn\">withdrawn</th><th class=\"good\">good</th><th>sessions</th><th>spoiled</th></tr>\n"
+    codes "<table>\n<thead>\n<tr><th>records</th><th class=\"waiting\">waiting</th><th class=\"running\">running</th><th class=\"failed\">failed</th><th class=\"withdrawn\">withdrawn</th><th class=\"good\">good</th><th>sessions</th><th>spoiled</th></tr>\n</thead>\n"
 
 -- the account: the cells of the batch's line after its name, its product and its state
 abbrev pub counts_html : Tables → StoredBatch → List ℕ
@@ -68,7 +69,7 @@ account_html t b = table_html account_heads (counts_html t b)
 
 unfoldable pub card_heads : List ℕ
 card_heads =
-    codes "<h2>Cards</h2>\n<table>\n<tr><th>record</th><th>session</th><th>machine</th><th>serial</th><th>state</th><th>words</th><th>last</th></tr>\n"
+    codes "<h2>Cards</h2>\n<table>\n<thead>\n<tr><th>record</th><th>session</th><th>machine</th><th>serial</th><th>state</th><th>words</th><th>last</th></tr>\n</thead>\n"
 
 abbrev pub card_html : Card → List ℕ
 card_html c = row_html (state_word (stands_by c.session.state)) (card_line c).cells
@@ -77,7 +78,7 @@ abbrev pub cards_html : List Card → List ℕ
 cards_html cards = table_html card_heads (flat_map card_html cards)
 
 unfoldable pub blank_heads : List ℕ
-blank_heads = codes "<h2>Blanks</h2>\n<table>\n<tr><th>serial</th><th>lot</th><th>state</th><th>record</th></tr>\n"
+blank_heads = codes "<h2>Blanks</h2>\n<table>\n<thead>\n<tr><th>serial</th><th>lot</th><th>state</th><th>record</th></tr>\n</thead>\n"
 
 -- the row of a charged blank, without the name of the batch
 abbrev pub charge_html : Tables → Charge → List ℕ

@@ -126,6 +126,7 @@ fn push_shown(page: &mut Vec<u8>, cell: &Cell<'_>) -> Result<(), AllocError>
     match cell.shown {
         Shown::Nothing => push_plain(page, "-"),
         Shown::Number(number) => push_number(page, number),
+        Shown::Digits(number) => push_number(page, number),
         Shown::Word(word) => push_escaped(page, word),
         Shown::Status(sw) => push_status(page, sw),
     }

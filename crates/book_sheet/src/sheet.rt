@@ -40,18 +40,18 @@ th,td{border:1px solid;padding:2px 8px;text-align:left}\
 .withdrawn{background:#aaa}.good{background:#9d9}</style>\n</head>\n<body>\n";
 
 /// The column headings of the account.
-const ACCOUNT: &str = "<table>\n<tr><th>records</th><th class=\"waiting\">waiting</th>\
+const ACCOUNT: &str = "<table>\n<thead>\n<tr><th>records</th><th class=\"waiting\">waiting</th>\
 <th class=\"running\">running</th><th class=\"failed\">failed</th>\
 <th class=\"withdrawn\">withdrawn</th><th class=\"good\">good</th>\
-<th>sessions</th><th>spoiled</th></tr>\n";
+<th>sessions</th><th>spoiled</th></tr>\n</thead>\n";
 
 /// The column headings of the cards.
-const CARDS: &str = "<h2>Cards</h2>\n<table>\n<tr><th>record</th><th>session</th>\
-<th>machine</th><th>serial</th><th>state</th><th>words</th><th>last</th></tr>\n";
+const CARDS: &str = "<h2>Cards</h2>\n<table>\n<thead>\n<tr><th>record</th><th>session</th>\
+<th>machine</th><th>serial</th><th>state</th><th>words</th><th>last</th></tr>\n</thead>\n";
 
 /// The column headings of the blanks.
-const BLANKS: &str = "<h2>Blanks</h2>\n<table>\n<tr><th>serial</th><th>lot</th>\
-<th>state</th><th>record</th></tr>\n";
+const BLANKS: &str = "<h2>Blanks</h2>\n<table>\n<thead>\n<tr><th>serial</th><th>lot</th>\
+<th>state</th><th>record</th></tr>\n</thead>\n";
 
 /// The text before the SHA-256 of the batch file.
 const FILE: &str = "<p>SHA-256 of the batch file <code>";

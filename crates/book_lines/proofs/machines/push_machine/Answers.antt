@@ -15,10 +15,10 @@ returns c =
     let replies = c.range_of-replies.ensures ∙ ap (filter (λ (k : ℕ × Entry). k.0 == place)) c.deref-2.ensures.value in
     let marks = c.range_of.ensures ∙ ap (filter (λ (k : ℕ × Mark). k.0 == place)) c.deref-3.ensures.value in
     subst (λ (line : Line). OnOk c.push_line.result (c.push_line.new.text.items ≡ c.args.text.now.items ++ line_text c.args.form line))
-    (line_is c.args.rows.now.tables.now c.args.rows.now.clients.keys c.args.rows.now.sessions.items c.args.rows.now.replies.items c.args.rows.now.marks.items
+    (line_is c.args.rows.now.tables.now c.args.rows.now.clients.names.items c.args.rows.now.sessions.items c.args.rows.now.replies.items c.args.rows.now.marks.items
     c.args.rows.now.clients_are c.args.rows.now.sessions_are c.args.rows.now.replies_are c.args.rows.now.marks_are place c.args.client.now c.requires
-    c.word.result c.optional.result c.optional-2.result c.number.result c.optional-3.result c.running_in.result c.upto_of-upto.result (length c.range_of-replies.result.now) c.next_boot.result
-    c.word.ensures c.optional.ensures c.optional-2.ensures c.number.ensures c.optional-3.ensures
+    c.word.result c.optional.result c.optional_digits.result c.number.result c.optional-2.result c.running_in.result c.upto_of-upto.result (length c.range_of-replies.result.now) c.next_boot.result
+    c.word.ensures c.optional.ensures c.optional_digits.ensures c.number.ensures c.optional-2.ensures
     (c.running_in.ensures
     ∙ ap (λ (ks : List (ℕ × StoredSession)). option_map (λ (k : ℕ × StoredSession). k.1.id) (find (λ (k : ℕ × StoredSession). is_running k.1.state) ks)) sessions)
     (c.upto_of-upto.ensures ∙ ap (λ (ks : List (ℕ × Mark)). option_map (λ (k : ℕ × Mark). k.1.upto) (slice_get ks 0)) marks)
