@@ -17,7 +17,8 @@ use Rattle.image_laws.specs.Decided.{batch_of_row}
 use Rattle.table_rows.specs.Keys.{is_batch, is_grouping_of, is_record_of}
 use Rattle.audit_laws.specs.Audited.{IsAudited, IsAuditedRecord, IsAuditedSession, file_groupings, file_keys, file_records, file_rows, is_session_of, key_of}
 use Rattle.audit_rows.specs.Audit.{AreFewOnce, AreOwned, IsIdOf}
-use Rattle.audit_rows.specs.Rules.{AllHold, blank_rules, card_rules, named_rules, reply_rules, rules}
+use Rattle.audit_rows.specs.Rules.{AllHold, rules}
+use Rattle.audit_rows.proofs.RuleLemmas.{AreReadyAfter}
 use Rattle.row_laws.proofs.Finding.{AllPairs-from_map}
 use Rattle.audit_order.specs.Order.{AreReady, AreSorted, lots_of}
 use Rattle.audit_cards.specs.Sessions.{IsAuditedFile}
@@ -77,98 +78,119 @@ module _ (t : Tables) (ids : map (λ (b : StoredBatch). b.id) t.batches ≡ rang
   ids_of n f own = All-joined (λ x. IsIdOf (length t.batches) (n x)) f t.batches
       (λ i d within k e inside. subst (IsIdOf (length t.batches)) (sym (own (get_or t.batches i d) k e inside)) (own_ids i d within))
 
-module _ (t : Tables) (named : AllHold named_rules t) where
-  abbrev products_of : AreProducts t.products
-  products_of = named.0
-
-  abbrev lots_are : AreLots t.products (lots_of t.lots)
-  lots_are = named.1.0
-
-  abbrev batches_are : AreFewOnce t.batches
-  batches_are = named.1.1.0
-
-  abbrev pub batch_ids : map (λ (b : StoredBatch). b.id) t.batches ≡ range_with_len 1 (length t.batches)
-  batch_ids = named.1.1.1.0
-
-  abbrev session_ids : map (λ (s : StoredSession). s.id) t.sessions ≡ range_with_len 1 (length t.sessions)
-  session_ids = named.1.1.1.1.0
-
-  abbrev owned : AreOwned (length t.batches) t.records t.groupings t.sessions
-  owned = named.1.1.1.1.1.0
-
 -- ---- from the rules to the audit
 
-module _ (t : Tables) (sorted : AreSorted t) (named : AllHold named_rules t) (files : All (IsAuditedFile t) t.batches) where
-  abbrev ids : map (λ (b : StoredBatch). b.id) t.batches ≡ range_with_len 1 (length t.batches)
-  ids = batch_ids t named
-
+module _ (t : Tables) (sorted : AreSorted t) (ids : map (λ (b : StoredBatch). b.id) t.batches ≡ range_with_len 1 (length t.batches))
+    (owned : AreOwned (length t.batches) t.records t.groupings t.sessions) (files : All (IsAuditedFile t) t.batches) where
   records_are : map key_of t.records ≡ flat_map (file_keys t) t.batches
   records_are =
       ap (map key_of) (by_owner (λ (r : StoredRecord). r.batch) (λ (b : StoredBatch). b.id) t.batches t.records ids
-      (first_rising (λ (r : StoredRecord). r.batch) (λ (r : StoredRecord). r.place ∷ []) t.records sorted.in_order.records) (owned t named).records_are)
+      (first_rising (λ (r : StoredRecord). r.batch) (λ (r : StoredRecord). r.place ∷ []) t.records sorted.in_order.records) owned.records_are)
       ∙ map-flat_map key_of (λ (b : StoredBatch). filter (is_record_of b.id) t.records) t.batches
       ∙ flat_map_same (λ (b : StoredBatch). map key_of (filter (is_record_of b.id) t.records)) (file_keys t) t.batches (λ i d within. (files i d within).records)
 
   groupings_are : t.groupings ≡ flat_map (file_groupings t) t.batches
   groupings_are =
       by_owner (λ (g : StoredGrouping). g.batch) (λ (b : StoredBatch). b.id) t.batches t.groupings ids
-      (first_rising (λ (g : StoredGrouping). g.batch) (λ (g : StoredGrouping). g.line ∷ []) t.groupings sorted.in_order.groupings) (owned t named).groupings_are
+      (first_rising (λ (g : StoredGrouping). g.batch) (λ (g : StoredGrouping). g.line ∷ []) t.groupings sorted.in_order.groupings) owned.groupings_are
       ∙ flat_map_same (λ (b : StoredBatch). filter (is_grouping_of b.id) t.groupings) (file_groupings t) t.batches (λ i d within. (files i d within).groupings)
-
-  audited : AllHold card_rules t → AllHold blank_rules t → AllHold reply_rules t → IsAudited t
-  audited cards blanks replies = record {
-    products = products_of t named;
-    lots = lots_are t named;
-    batches = record {
-      few = omega (arith, (batches_are t named).0, length-map t.batches batch_of_row);
-      once = subst AreNamedOnce (names_are t.batches) (named_once (λ (b : StoredBatch). b.name) t.batches (batches_are t named).1);
-      each = All-map (IsBatch t.products) batch_of_row t.batches (λ i d within. (files i d within).batch);
-    };
-    batch_ids = ids;
-    records = records_are;
-    groupings = groupings_are;
-    session_ids = session_ids t named;
-    words = cards.0;
-    each_session = each_row t ids (λ (s : StoredSession). s.batch) (IsAuditedSession t) t.sessions (owned t named).sessions_are (λ i d within. (files i d within).each_session);
-    machines = cards.1.1.0;
-    each_record = each_row t ids (λ (r : StoredRecord). r.batch) (IsAuditedRecord t) t.records (owned t named).records_are (λ i d within. (files i d within).each_record);
-    remakes = cards.1.0;
-    each_batch = λ i d within. (files i d within).counts;
-    each_lot = blanks.0;
-    blanks_once = blanks.1.0;
-    each_blank = blanks.1.1.0;
-    opened = blanks.1.1.1.0;
-    marks = replies.0;
-    kept = replies.1.0;
-    marked_once = replies.1.1.0;
-    above = replies.1.1.1.0;
-    kept_once = replies.1.1.1.1.0;
-  }
 
 -- Sorted rows that obey all rules pass the audit.
 pub rows_pass : (t : Tables) → AreSorted t → AllHold rules t → IsAudited t
-rows_pass t sorted (p, (l, (b, (bi, (si, (o, (f, (w, (r, (m, (lc, (bt, (bl, (ob, replies)))))))))))))) =
-    audited t sorted (p, (l, (b, (bi, (si, (o, tt)))))) f (w, (r, (m, tt))) (lc, (bt, (bl, (ob, tt)))) replies
+rows_pass t sorted (products, (lots, (batches, (ids, (session_ids, (owned, (files, (words, (remakes, (machines, (counters, (once, (blanks, (opened, (marks, (kept, (marked_once, (above, (kept_once, end))))))))))))))))))) =
+    record {
+      products = products;
+      lots = lots;
+      batches = record {
+        few = omega (arith, batches.0, length-map t.batches batch_of_row);
+        once = subst AreNamedOnce (names_are t.batches) (named_once (λ (b : StoredBatch). b.name) t.batches batches.1);
+        each = All-map (IsBatch t.products) batch_of_row t.batches (λ i d within. (files i d within).batch);
+      };
+      batch_ids = ids;
+      records = records_are t sorted ids owned files;
+      groupings = groupings_are t sorted ids owned files;
+      session_ids = session_ids;
+      words = words;
+      each_session = each_row t ids (λ (s : StoredSession). s.batch) (IsAuditedSession t) t.sessions owned.sessions_are (λ i d within. (files i d within).each_session);
+      machines = machines;
+      each_record = each_row t ids (λ (r : StoredRecord). r.batch) (IsAuditedRecord t) t.records owned.records_are (λ i d within. (files i d within).each_record);
+      remakes = remakes;
+      each_batch = λ i d within. (files i d within).counts;
+      each_lot = counters;
+      blanks_once = once;
+      each_blank = blanks;
+      opened = opened;
+      marks = marks;
+      kept = kept;
+      marked_once = marked_once;
+      above = above;
+      kept_once = kept_once;
+    }
 
 -- ---- preconditions that follow from the first rules
 
-module _ (t : Tables) (sorted : AreSorted t) (named : AllHold named_rules t) where
-  pub ready_of : AreReady t
-  ready_of =
-      let lots = lots_in_range t.products t.lots (lots_are t named) in
+module _ (t : Tables) (sorted : AreSorted t) where
+  pub ready_of : AreProducts t.products → AreLots t.products (lots_of t.lots) → map (λ (b : StoredBatch). b.id) t.batches ≡ range_with_len 1 (length t.batches) → AreReady t
+  ready_of products are ids =
+      let lots = lots_in_range t.products t.lots are in
       record {
         records = first_rising (λ (r : StoredRecord). r.batch) (λ (r : StoredRecord). r.place ∷ []) t.records sorted.in_order.records;
         groupings = first_rising (λ (g : StoredGrouping). g.batch) (λ (g : StoredGrouping). g.line ∷ []) t.groupings sorted.in_order.groupings;
         words = first_rising (λ (w : StoredWord). w.session) (λ (w : StoredWord). w.place ∷ []) t.words sorted.in_order.words;
-        products = products_of t named;
+        products = products;
         lots = record {
           rising = sorted.lots;
           some = λ k d within. (lots k d within).least;
           range = λ k d within. (lots k d within).range;
-          apart = AllPairs-from_map AreApart (λ (l : StoredLot). l.lot) t.lots (lots_are t named).apart;
+          apart = AllPairs-from_map AreApart (λ (l : StoredLot). l.lot) t.lots are.apart;
         };
-        batch_ids = batch_ids t named;
+        batch_ids = ids;
       }
+
+  pub each_ready : AreReadyAfter t [] rules
+  each_ready = (
+    λ h. tt,
+    (
+      λ h. h.0,
+      (
+        λ h. tt,
+        (
+          λ h. tt,
+          (
+            λ h. tt,
+            (
+              λ h. tt,
+              (
+                λ h. ready_of h.0 h.1.0 h.1.1.1.0,
+                (
+                  λ h. ready_of h.0 h.1.0 h.1.1.1.0,
+                  (
+                    λ h. tt,
+                    (
+                      λ h. tt,
+                      (
+                        λ h. ready_of h.0 h.1.0 h.1.1.1.0,
+                        (
+                          λ h. sorted.blanks,
+                          (
+                            λ h. ready_of h.0 h.1.0 h.1.1.1.0,
+                            (
+                              λ h. tt,
+                              (λ h. tt, (λ h. tt, (λ h. tt, (λ h. h.1.1.1.1.1.1.1.1.1.1.1.1.1.1.1.1.0, (λ h. tt, tt))))),
+                            ),
+                          ),
+                        ),
+                      ),
+                    ),
+                  ),
+                ),
+              ),
+            ),
+          ),
+        ),
+      ),
+    ),
+  )
 
 -- ---- from the audit to the rules
 
@@ -222,19 +244,7 @@ module _ (t : Tables) (a : IsAudited t) where
                     a.remakes,
                     (
                       a.machines,
-                      (
-                        a.each_lot,
-                        (
-                          a.blanks_once,
-                          (
-                            a.each_blank,
-                            (
-                              a.opened,
-                              (a.marks, (a.kept, (a.marked_once, (a.above, (a.kept_once, tt))))),
-                            ),
-                          ),
-                        ),
-                      ),
+                      (a.each_lot, (a.blanks_once, (a.each_blank, (a.opened, (a.marks, (a.kept, (a.marked_once, (a.above, (a.kept_once, tt))))))))),
                     ),
                   ),
                 ),

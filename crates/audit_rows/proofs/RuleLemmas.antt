@@ -1,10 +1,11 @@
 -- The first rule of a list that fails.
-use Rattle.std.proofs.Common.{◌≡◌, Bool, true, false, List, [], ◌∷◌, ◌++◌, Option, Some, None, Result, Ok, Err, is_some, ap, append_assoc, refl, subst, sym, ◌∙◌}
-use Rattle.std.specs.Prelude.{IfOk, IfSome}
+use Rattle.std.proofs.Common.{◌≡◌, ◌<◌, ℕ, zero, suc, Bool, true, false, List, [], ◌∷◌, ◌++◌, Option, Some, None, Result, Ok, Err, append-nil, append_assoc, arith, drop, get_or, is_some, length, refl, subst, sym, take, ◌∙◌}
+use Rattle.std.specs.Prelude.{⊤, IfOk, IfSome}
+use Rattle.std.proofs.Math.Seq.{split_at, take-suc}
 use Rattle.std.proofs.lemmas.Bool.{false≢true}
 use Rattle.table_rows.specs.Tables.{Tables}
 use Rattle.audit_rows.specs.declared.rule.Rule.{Rule}
-use Rattle.audit_rows.specs.Rules.{AllHold, FailsFirst, Holds, IsFirstFailing, rules}
+use Rattle.audit_rows.specs.Rules.{AllHold, FailsFirst, Holds, IsFirstFailing, IsReadyFor, rules}
 
 -- A rule fails if its check returns `false`.
 pub broken : {P : Type 0} {r : Bool} → r ≡ false → (r ≡ true → P) × (P → r ≡ true) → ¬ P
@@ -19,10 +20,6 @@ module _ (t : Tables) where
   holds_among [] after rule held = held.0
   holds_among (r ∷ before) after rule held = holds_among before after rule held.1
 
-  -- A rule that fails is the first if the rules before it hold.
-  pub fails_at : (before after : List Rule) (rule : Rule) → AllHold before t → ¬ Holds rule t → FailsFirst (before ++ rule ∷ after) t rule
-  fails_at before after rule held broken = record { before = before; after = after; place = refl; hold = held; fails = broken }
-
   -- If all rules hold, no rule fails.
   pub none_fails : (some : List Rule) (o : Option Rule) → AllHold some t → IsFirstFailing some t o → is_some o ≡ false
   none_fails some None held first = refl
@@ -33,32 +30,27 @@ module _ (t : Tables) where
   where_none some None is first = first
   where_none some (Some rule) is first = absurd (false≢true (sym is))
 
-  -- The first failing rule of a list is also the first of any longer list that starts with this
-  -- list.
-  pub first_of_more : (some more : List Rule) (o : Option Rule) → is_some o ≡ true → IsFirstFailing some t o → IsFirstFailing (some ++ more) t o
-  first_of_more some more None is first = absurd (false≢true is)
-  first_of_more some more (Some rule) is first = record {
-    before = first.before;
-    after = first.after ++ more;
-    place = ap (λ rs. rs ++ more) first.place ∙ append_assoc first.before (rule ∷ first.after) more;
-    hold = first.hold;
-    fails = first.fails;
-  }
+  -- ---- the check of one rule after the other
 
-  -- If the rules of a list hold, the first failing rule after it is the first of both lists.
-  pub first_after : (some more : List Rule) (o : Option Rule) → AllHold some t → IsFirstFailing more t o → IsFirstFailing (some ++ more) t o
-  first_after some more None held first = all_hold some more held first
-  first_after some more (Some rule) held first = record {
-    before = some ++ first.before;
-    after = first.after;
-    place = ap (λ rs. some ++ rs) first.place ∙ sym (append_assoc some first.before (rule ∷ first.after));
-    hold = all_hold some first.before held first.hold;
-    fails = first.fails;
-  }
+  -- Each rule of the list `after` is ready to be checked once the rules before it hold, which are
+  -- those of the list `before` and the first ones of `after`.
+  abbrev pub AreReadyAfter : List Rule → List Rule → Type 0
+  AreReadyAfter before [] = ⊤
+  AreReadyAfter before (r ∷ after) = (AllHold before t → IsReadyFor r t) × AreReadyAfter (before ++ r ∷ []) after
 
-  pub first_found_after : {E : Type 0} (some more : List Rule) (r : Result (Option Rule) E) → AllHold some t → IfOk r (IsFirstFailing more t) → IfOk r (IsFirstFailing (some ++ more) t)
-  first_found_after some more (Ok o) held first = first_after some more o held first
-  first_found_after some more (Err e) held first = tt
+  pub ready_at : (before after : List Rule) → AreReadyAfter before after → (k : ℕ) (d : Rule) → k < length after → AllHold (before ++ take k after) t → IsReadyFor (get_or after k d) t
+  ready_at before [] each k d within held = absurd (omega arith)
+  ready_at before (r ∷ after) each zero d within held = each.0 (subst (λ rs. AllHold rs t) (append-nil before) held)
+  ready_at before (r ∷ after) each (suc k) d within held =
+      ready_at (before ++ r ∷ []) after each.1 k d (omega arith) (subst (λ rs. AllHold rs t) (sym (append_assoc before (r ∷ []) (take k after))) held)
+
+  -- The rule at index `k` fails, and the rules before it hold.
+  pub fails_at : (some : List Rule) (k : ℕ) (d : Rule) → k < length some → AllHold (take k some) t → ¬ Holds (get_or some k d) t → FailsFirst some t (get_or some k d)
+  fails_at some k d within held broken = record { before = take k some; after = drop (suc k) some; place = split_at some k d within; hold = held; fails = broken }
+
+  -- One more rule holds.
+  pub one_more : (some : List Rule) (k : ℕ) (d : Rule) → k < length some → AllHold (take k some) t → Holds (get_or some k d) t → AllHold (take (suc k) some) t
+  one_more some k d within held holds = subst (λ rs. AllHold rs t) (sym (take-suc some k d within)) (all_hold (take k some) (get_or some k d ∷ []) held (holds, tt))
 
   -- ---- all rules
 

@@ -1,12 +1,13 @@
 -- The audit rules: the condition of each rule, and the first rule that fails.
-use Rattle.std.specs.Prelude.{◌≡◌, ◌≢◌, ◌≤◌, ℕ, false, List, [], ◌∷◌, ◌++◌, All, AllPairs, IsPermutation, IsTrue, Option, Some, None, bytes_eq, count_by, flat_map, length, map}
+use Rattle.std.specs.Prelude.{◌≡◌, ◌≢◌, ◌≤◌, ℕ, ⊤, false, List, [], ◌∷◌, ◌++◌, All, AllPairs, IsPermutation, IsTrue, Option, Some, None, bytes_eq, count_by, flat_map, length, map}
 use Rattle.std.specs.List.{AllByRecursion, range_with_len}
+use Rattle.std.specs.List.Sorted.{IsNonDecreasingBy}
 use Rattle.job_facts.specs.Contents.{Entry, IsEntry, IsMark, Mark, is_above, is_of_number}
 use Rattle.job_facts.specs.Sound.{AreLots, AreProducts}
 use Rattle.table_rows.specs.Tables.{StoredBatch, StoredBlank, StoredSession, Tables}
 use Rattle.table_rows.specs.Keys.{is_running_on}
 use Rattle.audit_laws.specs.Audited.{IsAuditedBlank, IsAuditedLot, opened_rows, placed_words, turns_of}
-use Rattle.audit_order.specs.Order.{lots_of}
+use Rattle.audit_order.specs.Order.{AreReady, lots_of}
 use Rattle.audit_cards.specs.Sessions.{IsAuditedFile}
 use Rattle.audit_rows.specs.Audit.{AreFewOnce, AreOwned}
 use Rattle.audit_rows.specs.declared.rule.Rule.{Rule}
@@ -34,22 +35,22 @@ Holds MarkTwice t = AllPairs (λ (m n : Mark). bytes_eq m.client n.client ≡ fa
 Holds ReleasedReplies t = All (λ (e : Entry). IsTrue (is_above t.marks e)) t.replies
 Holds ReplyTwice t = AllPairs (λ (d e : Entry). is_of_number d e ≡ false) t.replies
 
--- ---- all rules, in the order in which they are checked
+-- What the check of the rule needs. It holds if the rows are sorted and obey the rules before it.
+abbrev pub IsReadyFor : Rule → Tables → Type 0
+IsReadyFor Lots t = AreProducts t.products
+IsReadyFor Files t = AreReady t
+IsReadyFor Words t = AreReady t
+IsReadyFor LotCounters t = AreReady t
+IsReadyFor BlankTwice t = IsNonDecreasingBy (λ (b : StoredBlank). b.serial) t.blanks
+IsReadyFor BlankLots t = AreReady t
+IsReadyFor ReleasedReplies t = Holds MarkTwice t
+IsReadyFor rule t = ⊤
 
-abbrev pub named_rules : List Rule
-named_rules = Products ∷ Lots ∷ Batches ∷ BatchIds ∷ SessionIds ∷ Owners ∷ []
-
-abbrev pub card_rules : List Rule
-card_rules = Words ∷ Remakes ∷ Machines ∷ []
-
-abbrev pub blank_rules : List Rule
-blank_rules = LotCounters ∷ BlankTwice ∷ BlankLots ∷ OpenedBlanks ∷ []
-
-abbrev pub reply_rules : List Rule
-reply_rules = Marks ∷ Replies ∷ MarkTwice ∷ ReleasedReplies ∷ ReplyTwice ∷ []
-
+-- all rules, in the order in which they are checked
 abbrev pub rules : List Rule
-rules = named_rules ++ (Files ∷ []) ++ card_rules ++ blank_rules ++ reply_rules
+rules =
+    Products ∷ Lots ∷ Batches ∷ BatchIds ∷ SessionIds ∷ Owners ∷ Files ∷ Words ∷ Remakes ∷ Machines ∷ LotCounters ∷ BlankTwice ∷ BlankLots ∷ OpenedBlanks ∷ Marks ∷ Replies ∷ MarkTwice
+    ∷ ReleasedReplies ∷ ReplyTwice ∷ []
 
 -- ---- the first rule that fails
 

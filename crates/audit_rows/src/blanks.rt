@@ -8,10 +8,8 @@ ghost use Rattle.table_rows.specs.Tables.{StoredBlank as BlankValue, StoredLot a
 ghost use Rattle.table_rows.specs.Tables.{StoredSession as SessionValue};
 ghost use Rattle.image_laws.specs.Decided.{discarded_rows};
 ghost use Rattle.audit_laws.specs.Audited.{IsAuditedBlank, IsAuditedLot, opened_rows};
-ghost use Rattle.audit_rows.specs.Rules.{IsFirstFailing, blank_rules};
 ghost use Rattle.audit_order.specs.Order.{AreReady};
 
-use crate::rule::Rule;
 use audit_order::lot_for;
 use std::alloc::{AllocError, Global};
 use table_rows::{StoredBlank, StoredLot, StoredSession, Tables};
@@ -44,7 +42,8 @@ fn is_audited_blank(tables: &Tables, blank: &StoredBlank) -> bool
     }
 }
 
-fn are_audited_blanks(tables: &Tables, blanks: &[StoredBlank]) -> bool
+/// Returns `true` if the serial of each blank of `blanks` is in the lot that its row names.
+pub(crate) fn are_audited_blanks(tables: &Tables, blanks: &[StoredBlank]) -> bool
     requires { AreReady tables.now }
     ensures { IsTrue result ↔ All (IsAuditedBlank tables.now) blanks.now }
 {
@@ -178,16 +177,16 @@ fn count_discarded(
     Ok(count_all(lots, &serials))
 }
 
-// Returns `true` if the counter of each lot of `tables` is the number of its discarded blanks.
-fn has_counts(alloc: Global, tables: &Tables) -> Result<bool, AllocError>
+/// Returns `true` if the counter of each lot of `tables` is the number of its discarded blanks.
+pub(crate) fn has_counts(alloc: Global, tables: &Tables) -> Result<bool, AllocError>
     requires { AreReady tables.now }
     ensures { IfOk result (λ sound. IsTrue sound ↔ All (IsAuditedLot tables.now) tables.now.lots) }
 {
     count_discarded(alloc, &tables.lots, &tables.blanks)
 }
 
-// Returns `true` if no two blanks of `tables` have the same serial.
-fn has_once(tables: &Tables) -> bool
+/// Returns `true` if no two blanks of `tables` have the same serial.
+pub(crate) fn has_once(tables: &Tables) -> bool
     requires { IsNonDecreasingBy (λ (b : BlankValue). b.serial) tables.now.blanks }
     ensures { IsTrue result
         ↔ AllPairs (λ (b c : BlankValue). b.serial ≢ c.serial) tables.now.blanks }
@@ -195,47 +194,12 @@ fn has_once(tables: &Tables) -> bool
     are_blanks_once(&tables.blanks)
 }
 
-// Returns `true` if the serial of each blank of `tables` is in the lot that its row names.
-fn has_lots(tables: &Tables) -> bool
-    requires { AreReady tables.now }
-    ensures { IsTrue result ↔ All (IsAuditedBlank tables.now) tables.now.blanks }
-{
-    are_audited_blanks(tables, &tables.blanks)
-}
-
-// Returns `true` if the blanks of `tables` that aren't discarded are exactly the blanks of its
-// sessions.
-fn has_opened(alloc: Global, tables: &Tables) -> Result<bool, AllocError>
+/// Returns `true` if the blanks of `tables` that aren't discarded are exactly the blanks of its
+/// sessions.
+pub(crate) fn has_opened(alloc: Global, tables: &Tables) -> Result<bool, AllocError>
     ensures { IfOk result (λ same. IsTrue same
         ↔ IsPermutation (map (λ (b : BlankValue). b.serial) (opened_rows tables.now.blanks))
         (map (λ (s : SessionValue). s.serial) tables.now.sessions)) }
 {
     are_opened(alloc, &tables.blanks, &tables.sessions)
-}
-
-/// Returns the first rule that fails, among those of blanks.
-///
-/// # Errors
-///
-/// Returns `AllocError` if an allocation fails.
-pub(crate) fn failing_blank(alloc: Global, tables: &Tables) -> Result<Option<Rule>, AllocError>
-    requires ready { AreReady tables.now }
-    requires rising { IsNonDecreasingBy (λ (b : BlankValue). b.serial) tables.now.blanks }
-    ensures { IfOk result (IsFirstFailing blank_rules tables.now) }
-{
-    let counted = has_counts(alloc, tables)?;
-    if !counted {
-        return Ok(Some(Rule::LotCounters));
-    }
-    if !has_once(tables) {
-        return Ok(Some(Rule::BlankTwice));
-    }
-    if !has_lots(tables) {
-        return Ok(Some(Rule::BlankLots));
-    }
-    let opened = has_opened(alloc, tables)?;
-    if !opened {
-        return Ok(Some(Rule::OpenedBlanks));
-    }
-    Ok(None)
 }

@@ -5,10 +5,8 @@ ghost use Rattle.job_facts.specs.Contents.{Entry, IsEntry, IsMark, Mark, is_abov
 ghost use Rattle.job_facts.specs.Contents.{mark_of};
 ghost use Rattle.job_facts.specs.Sound.{IsName};
 ghost use Rattle.audit_rows.specs.Clients.{mark_at, named};
-ghost use Rattle.audit_rows.specs.Rules.{IsFirstFailing, reply_rules};
 
 use crate::once::are_once;
-use crate::rule::Rule;
 use audit_order::is_name;
 use std::alloc::{AllocError, Global};
 use std::collections::BTreeMap;
@@ -71,8 +69,8 @@ fn clients_of(alloc: Global, marks: &[StoredMark]) -> Result<Vec<&[u8]>, AllocEr
         .collect(alloc)
 }
 
-// Returns `true` if no client has two release marks.
-fn are_marked_once(alloc: Global, marks: &[StoredMark]) -> Result<bool, AllocError>
+/// Returns `true` if no client has two release marks.
+pub(crate) fn are_marked_once(alloc: Global, marks: &[StoredMark]) -> Result<bool, AllocError>
     ensures { IfOk result (λ once. IsTrue once
         ↔ AllPairs (λ (m n : Mark). bytes_eq m.client n.client ≡ false) marks.now) }
 {
@@ -91,8 +89,8 @@ fn numbers_of(alloc: Global, replies: &[StoredReply]) -> Result<Vec<(&[u8], u64)
         .collect(alloc)
 }
 
-// Returns `true` if no client has two kept replies with the same request number.
-fn are_kept_once(alloc: Global, replies: &[StoredReply]) -> Result<bool, AllocError>
+/// Returns `true` if no client has two kept replies with the same request number.
+pub(crate) fn are_kept_once(alloc: Global, replies: &[StoredReply]) -> Result<bool, AllocError>
     ensures { IfOk result (λ once. IsTrue once
         ↔ AllPairs (λ (d e : Entry). is_of_number d e ≡ false) replies.now) }
 {
@@ -137,9 +135,9 @@ fn are_above(uptos: &BTreeMap<&[u8], u64>, replies: &[StoredReply]) -> bool
     replies.iter().all(|reply| is_above(uptos, reply))
 }
 
-// Returns `true` if the request number of each reply is above the release mark of its client in
-// `marks`.
-fn are_unreleased(
+/// Returns `true` if the request number of each reply is above the release mark of its client in
+/// `marks`.
+pub(crate) fn are_unreleased(
     alloc: Global,
     marks: &[StoredMark],
     replies: &[StoredReply],
@@ -152,69 +150,16 @@ fn are_unreleased(
     Ok(are_above(&uptos, replies))
 }
 
-fn has_marks(tables: &Tables) -> bool
+/// Returns `true` if all release marks of `tables` have values in range.
+pub(crate) fn has_marks(tables: &Tables) -> bool
     ensures { IsTrue result ↔ All IsMark tables.now.marks }
 {
     are_marks(&tables.marks)
 }
 
-fn has_entries(tables: &Tables) -> bool
+/// Returns `true` if all kept replies of `tables` have values in range.
+pub(crate) fn has_entries(tables: &Tables) -> bool
     ensures { IsTrue result ↔ All IsEntry tables.now.replies }
 {
     are_entries(&tables.replies)
-}
-
-// Returns `true` if no client has two release marks in `tables`.
-fn has_marked_once(alloc: Global, tables: &Tables) -> Result<bool, AllocError>
-    ensures { IfOk result (λ once. IsTrue once
-        ↔ AllPairs (λ (m n : Mark). bytes_eq m.client n.client ≡ false) tables.now.marks) }
-{
-    are_marked_once(alloc, &tables.marks)
-}
-
-// Returns `true` if the request number of each kept reply of `tables` is above the release mark of
-// its client.
-fn has_unreleased(alloc: Global, tables: &Tables) -> Result<bool, AllocError>
-    requires { AllPairs (λ (m n : Mark). bytes_eq m.client n.client ≡ false) tables.now.marks }
-    ensures { IfOk result (λ above. IsTrue above
-        ↔ All (λ (e : Entry). IsTrue (is_above tables.now.marks e)) tables.now.replies) }
-{
-    are_unreleased(alloc, &tables.marks, &tables.replies)
-}
-
-// Returns `true` if no client has two kept replies with the same request number in `tables`.
-fn has_kept_once(alloc: Global, tables: &Tables) -> Result<bool, AllocError>
-    ensures { IfOk result (λ once. IsTrue once
-        ↔ AllPairs (λ (d e : Entry). is_of_number d e ≡ false) tables.now.replies) }
-{
-    are_kept_once(alloc, &tables.replies)
-}
-
-/// Returns the first rule that fails, among those of kept replies and release marks.
-///
-/// # Errors
-///
-/// Returns `AllocError` if an allocation fails.
-pub(crate) fn failing_reply(alloc: Global, tables: &Tables) -> Result<Option<Rule>, AllocError>
-    ensures { IfOk result (IsFirstFailing reply_rules tables.now) }
-{
-    if !has_marks(tables) {
-        return Ok(Some(Rule::Marks));
-    }
-    if !has_entries(tables) {
-        return Ok(Some(Rule::Replies));
-    }
-    let marked_once = has_marked_once(alloc, tables)?;
-    if !marked_once {
-        return Ok(Some(Rule::MarkTwice));
-    }
-    let unreleased = has_unreleased(alloc, tables)?;
-    if !unreleased {
-        return Ok(Some(Rule::ReleasedReplies));
-    }
-    let once = has_kept_once(alloc, tables)?;
-    if !once {
-        return Ok(Some(Rule::ReplyTwice));
-    }
-    Ok(None)
 }

@@ -8,9 +8,9 @@ use Rattle.table_rows.specs.Tables.{HaveSameRows, Tables}
 use Rattle.image_laws.specs.Image.{image}
 use Rattle.audit_laws.specs.Audited.{AreInOrder, IsAudited}
 use Rattle.audit_order.specs.Order.{AreSorted}
-use Rattle.audit_rows.specs.Rules.{AllHold, FailsFirst, named_rules, rules}
+use Rattle.audit_rows.specs.Rules.{FailsFirst, rules}
 use Rattle.audit_rows.specs.declared.rule.Rule.{Rule}
-use Rattle.audit_rows.proofs.AuditLemmas.{ready_of, rules_hold}
+use Rattle.audit_rows.proofs.AuditLemmas.{ready_of}
 use Rattle.audit_rows.proofs.SoundLemmas.{same_through}
 use Rattle.sql_base.specs.Ends.{IsKept}
 use Rattle.sql_tables.specs.Alike.{HasJust}
@@ -33,15 +33,12 @@ Law = (c : Contents) (t : Tables) → AreSound c → AreInOrder t → HaveSameRo
 abbrev AreOfSound : Tables → Type 0
 AreOfSound t = (c : Contents) × AreSound c × HaveSameRows t (image c)
 
-first_hold : (t : Tables) → AllHold rules t → AllHold named_rules t
-first_hold t (p, (l, (b, (bi, (si, (o, more)))))) = (p, (l, (b, (bi, (si, (o, tt))))))
-
 pub verdict_of : (t u : Tables) (failing : Option Rule) → Law → (is_some failing ≡ false → AreOfSound t) → IfSome failing (FailsFirst rules u) → AreSorted u → HaveSameRows u t
     → HasVerdict u failing
 verdict_of t u None law sound first sorted same =
     let w = sound refl in
     let a : IsAudited u = law w.0 u w.1 sorted.in_order (same_through u t (image w.0) same w.2) in
-    record { audited = a; sorted = sorted; ready = ready_of u sorted (first_hold u (rules_hold u a)) }
+    record { audited = a; sorted = sorted; ready = ready_of u sorted a.products a.lots a.batch_ids }
 verdict_of t u (Some rule) law sound first sorted same = first
 
 -- ---- the rows of tables of a version
