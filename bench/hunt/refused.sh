@@ -55,7 +55,7 @@ run_alone() {
 export -f run_alone
 export folder program
 
-left_out='::(a_stop_at_each_call_|files_)|^(damaged|carried|places|flipped|power_cuts|drains|limits|lost|peers|ports)::'
+left_out='::(a_stop_at_each_call_|files_)|^(damaged|carried|lots|places|flipped|power_cuts|drains|limits|lost|peers|ports)::'
 tests=0 total=0 failed=0
 for program in "$1" "$2" "$3"; do
     for test in $("$program" --list | sed -n 's/: test$//p' | grep -vE "$left_out" | grep -F -- "${4:-}"); do

@@ -31,3 +31,7 @@ mod places;
 mod stops;
 #[cfg(test)]
 mod versions;
+
+// The steps of a statement.
+#[cfg(test)]
+mod lots;
