@@ -34,6 +34,7 @@ MIB = 1 << 20
 MOST_BODY = 16 * MIB
 CLIENTS = 40_000
 BATCH_CARDS = 1_024
+MOST_BLANKS = 1_000_000
 MACHINES = 50
 # A record of one grouping that takes ten commands, after the SELECT.
 COMMANDS = 11
@@ -64,7 +65,8 @@ def with_cards(count: int) -> Contents:
     batches = {f"B{place}": ("P1", batch_file(BATCH_CARDS, GROUPING_SIZE)) for place in range(count // BATCH_CARDS)}
     words = (0x9000,) * COMMANDS
     sessions = [Session(f"m{n % MACHINES}", f"B{n // BATCH_CARDS}", f"R{n % BATCH_CARDS + 1}", n, words) for n in range(count)]
-    return contents(products={"P1": Product(SMALLEST, 0, 0)}, lots=[Lot("L1", "P1", 0, 1_000_000)], batches=batches, sessions=sessions)
+    lots = [Lot(f"L{first}", "P1", first, MOST_BLANKS) for first in range(0, count, MOST_BLANKS)]
+    return contents(products={"P1": Product(SMALLEST, 0, 0)}, lots=lots, batches=batches, sessions=sessions)
 
 
 def file_of(folder: pathlib.Path, name: str, its: Contents) -> pathlib.Path:
