@@ -1,6 +1,7 @@
 -- Lists the work that a restored backup lacks, as requests of the office, one in each line.
 -- In the folder of the restored shop.db: sqlite3 old/shop.db <lost.sql >requests
--- It changes neither file. docs/OPERATING.md, "Restore a backup", says how to send the requests.
+-- It changes no row. In another folder it creates an empty shop.db.
+-- docs/OPERATING.md, "Restore a backup", says how to send the requests.
 ATTACH 'shop.db' AS copy;
 
 -- Blanks that are charged only in the old file.

@@ -92,7 +92,7 @@ TEXTS = """
 70 not-finished: A record of the batch is neither good nor withdrawn.
 71 limit: The database already has the maximum number of products, lots or batches.
 72 number-reused: The request number was used before with different request bytes.
-73 number-released: The request number is released.
+73 number-released: The request number is released, so nothing was done: use one above the mark.
 74 release-too-far: A release must have a number above the numbers that it releases.
 400 malformed: The message is malformed: a proxy may have changed it, or this program is wrong.
 403 forbidden: The proxy doesn't allow this request to this client.
@@ -614,6 +614,8 @@ def fault_in(raw: bytes, code: int, number: int) -> dict[str, object]:
         found["rows"] = " and ".join(f"{one.number} (line {one.line})" for one in pair)
     if code == 30:
         found["fields"] = len(row.fields)
+        if re.search("[;\t]", "".join(row.fields)):
+            found["cause"] = "separate fields with commas"
     if code in FIELD_OF or code == 35:
         place = FIELD_OF.get(code) or (5 if row.fields[3] in ("0", "1", "2") else 4)
         found["field"] = f"{place} ({FIELDS[place - 1]})"
