@@ -9,7 +9,6 @@ ghost use Rattle.audit_order.specs.Order.{AreReady};
 ghost use Rattle.book_lines.specs.Cards.{batch_cards, card_line, card_of, cards_of, cards_text};
 ghost use Rattle.book_lines.specs.Cards.{record_cards};
 ghost use Rattle.book_lines.specs.Keyed.{AreKeyed};
-ghost use Rattle.book_lines.specs.Lines.{line_text, lines_by};
 
 use crate::blank_state::stands_by;
 use crate::card::{Card, card_of};
@@ -17,6 +16,7 @@ use crate::cell::{Cell, digits, number, status, word};
 use crate::form::Form;
 use crate::keyed::{Keyed, by_place};
 use crate::line::push_line;
+use crate::printed::{Printed, print_all};
 use audit_order::range_of;
 use std::alloc::{AllocError, Global};
 use store_data::Name;
@@ -70,7 +70,7 @@ fn cards_text(
 {
     let cards = batch_cards(alloc, tables, batch)?;
     let mut text = Vec::new(alloc);
-    push_cards(&mut text, form, &cards)?;
+    print_all(&mut text, form, tables, &cards)?;
     Ok(text)
 }
 
@@ -156,21 +156,17 @@ fn add_sessions<'a>(
 
 // ---- lines
 
-fn push_cards(text: &mut Vec<u8>, form: Form, cards: &[Card<'_>]) -> Result<(), AllocError>
-    ensures { OnOk result
-        (text.new.items ≡ text.old.items ++ lines_by form card_line cards.now) }
-{
-    for card in cards {
-        push_card(text, form, card)?;
-    }
-    Ok(())
-}
+impl Printed for Card<'_> {
+    ghost use Rattle.std.specs.Prelude.{⊤};
+    ghost use Rattle.book_lines.specs.Cards.{card_line};
 
-fn push_card(text: &mut Vec<u8>, form: Form, card: &Card<'_>) -> Result<(), AllocError>
-    ensures { OnOk result
-        (text.new.items ≡ text.old.items ++ line_text form (card_line card.now)) }
-{
-    push_line(text, form, "card", &card_cells(card))
+    ghost fits = { λ t c. ⊤ };
+
+    ghost line = { λ t c. card_line c };
+
+    fn print(&self, text: &mut Vec<u8>, form: Form, _tables: &Tables) -> Result<(), AllocError> {
+        push_line(text, form, "card", &card_cells(self))
+    }
 }
 
 /// Returns the cells of the line of `card`.

@@ -17,6 +17,7 @@ mod limits;
 mod line;
 mod lists;
 mod machines;
+mod printed;
 mod report;
 mod shown;
 

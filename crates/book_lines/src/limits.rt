@@ -7,6 +7,7 @@ ghost use Rattle.book_lines.specs.Lines.{line_text, lines_by};
 use crate::cell::{number, optional, word};
 use crate::form::Form;
 use crate::line::push_line;
+use crate::printed::{Printed, print_all};
 use std::alloc::AllocError;
 use std::marker::Model;
 use table_rows::Tables;
@@ -47,7 +48,7 @@ pub(crate) fn push_limits(text: &mut Vec<u8>, form: Form, tables: &Tables) -> Re
         limited("lot", tables.lots.len(), MOST_NAMED),
         limited("batch", tables.batches.len(), MOST_NAMED),
     ];
-    push_each(text, form, &limits)
+    print_all(text, form, tables, &limits)
 }
 
 fn limited(name: &str, used: usize, allowed: usize) -> Limit<'_>
@@ -60,26 +61,22 @@ fn limited(name: &str, used: usize, allowed: usize) -> Limit<'_>
     }
 }
 
-fn push_each(text: &mut Vec<u8>, form: Form, limits: &[Limit<'_>]) -> Result<(), AllocError>
-    ensures { OnOk result
-        (text.new.items ≡ text.old.items ++ lines_by form limit_line limits.now) }
-{
-    for limit in limits {
-        push_limit(text, form, limit)?;
-    }
-    Ok(())
-}
+impl Printed for Limit<'_> {
+    ghost use Rattle.std.specs.Prelude.{⊤};
+    ghost use Rattle.book_lines.specs.Limits.{limit_line};
 
-fn push_limit(text: &mut Vec<u8>, form: Form, limit: &Limit<'_>) -> Result<(), AllocError>
-    ensures { OnOk result
-        (text.new.items ≡ text.old.items ++ line_text form (limit_line limit.now)) }
-{
-    let cells = [
-        word("name", limit.name.as_bytes()),
-        number("used", limit.used as u64),
-        number("allowed", limit.allowed as u64),
-    ];
-    push_line(text, form, "limit", &cells)
+    ghost fits = { λ t l. ⊤ };
+
+    ghost line = { λ t l. limit_line l };
+
+    fn print(&self, text: &mut Vec<u8>, form: Form, _tables: &Tables) -> Result<(), AllocError> {
+        let cells = [
+            word("name", self.name.as_bytes()),
+            number("used", self.used as u64),
+            number("allowed", self.allowed as u64),
+        ];
+        push_line(text, form, "limit", &cells)
+    }
 }
 
 /// Appends the line with the size of the database file in bytes, if it is known.

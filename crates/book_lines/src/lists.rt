@@ -7,14 +7,14 @@ ghost use Rattle.table_rows.specs.Keys.{is_record_of};
 ghost use Rattle.table_rows.specs.Tables.{StoredBlank as BlankValue, StoredLot as LotValue};
 ghost use Rattle.audit_laws.specs.Audited.{opened_rows};
 ghost use Rattle.audit_order.specs.Order.{AreReady, AreSorted};
-ghost use Rattle.book_lines.specs.Lines.{line_text, lines_by};
-ghost use Rattle.book_lines.specs.Lists.{batch_line, charged_in, list_text, lot_line};
-ghost use Rattle.book_lines.specs.Lists.{open_or_closed, product_line, yes_or_no};
+ghost use Rattle.book_lines.specs.Lists.{batch_line, charged_in, list_text};
+ghost use Rattle.book_lines.specs.Lists.{open_or_closed, yes_or_no};
 
 use crate::cell::{Cell, digits, number, word};
 use crate::form::Form;
 use crate::limits::{push_limits, push_size};
 use crate::line::push_line;
+use crate::printed::{Printed, print_all};
 use audit_order::range_of;
 use std::alloc::{AllocError, Global};
 use table_rows::{StoredBatch, StoredBlank, StoredLot, StoredProduct, Tables};
@@ -40,9 +40,9 @@ pub fn list_text(
     ensures { IfOk result (λ text. text.items ≡ list_text form size tables.now) }
 {
     let mut text = Vec::new(alloc);
-    push_products(&mut text, form, &tables.products)?;
-    push_lots(&mut text, form, &tables.blanks, &tables.lots)?;
-    push_batches(&mut text, form, tables, &tables.batches)?;
+    print_all(&mut text, form, tables, &tables.products)?;
+    print_all(&mut text, form, tables, &tables.lots)?;
+    print_all(&mut text, form, tables, &tables.batches)?;
     push_limits(&mut text, form, tables)?;
     push_size(&mut text, form, size)?;
     Ok(text)
@@ -50,31 +50,23 @@ pub fn list_text(
 
 // ---- products
 
-fn push_products(
-    text: &mut Vec<u8>,
-    form: Form,
-    products: &[StoredProduct],
-) -> Result<(), AllocError>
-    ensures { OnOk result
-        (text.new.items ≡ text.old.items ++ lines_by form product_line products.now) }
-{
-    for product in products {
-        push_product(text, form, product)?;
-    }
-    Ok(())
-}
+impl Printed for StoredProduct {
+    ghost use Rattle.std.specs.Prelude.{⊤};
+    ghost use Rattle.book_lines.specs.Lists.{product_line};
 
-fn push_product(text: &mut Vec<u8>, form: Form, product: &StoredProduct) -> Result<(), AllocError>
-    ensures { OnOk result
-        (text.new.items ≡ text.old.items ++ line_text form (product_line product.now)) }
-{
-    let cells = [
-        word("name", &product.name),
-        number("max", u64::from(product.max)),
-        number("low", u64::from(product.low)),
-        word("check", yes_or_no(product.checked).as_bytes()),
-    ];
-    push_line(text, form, "product", &cells)
+    ghost fits = { λ t p. ⊤ };
+
+    ghost line = { λ t p. product_line p };
+
+    fn print(&self, text: &mut Vec<u8>, form: Form, _tables: &Tables) -> Result<(), AllocError> {
+        let cells = [
+            word("name", &self.name),
+            number("max", u64::from(self.max)),
+            number("low", u64::from(self.low)),
+            word("check", yes_or_no(self.checked).as_bytes()),
+        ];
+        push_line(text, form, "product", &cells)
+    }
 }
 
 fn yes_or_no(is_so: bool) -> &'static str
@@ -85,45 +77,30 @@ fn yes_or_no(is_so: bool) -> &'static str
 
 // ---- lots
 
-fn push_lots(
-    text: &mut Vec<u8>,
-    form: Form,
-    blanks: &[StoredBlank],
-    lots: &[StoredLot],
-) -> Result<(), AllocError>
-    requires rising { IsNonDecreasingBy (λ (b : BlankValue). b.serial) blanks.now }
-    requires ranges { All (λ (l : LotValue). l.lot.first + l.lot.count ≤ 10 ^ 18) lots.now }
-    ensures { OnOk result
-        (text.new.items ≡ text.old.items ++ lines_by form (lot_line blanks.now) lots.now) }
-{
-    for lot in lots {
-        push_lot(text, form, blanks, lot)?;
-    }
-    Ok(())
-}
+impl Printed for StoredLot {
+    ghost use Rattle.std.specs.Prelude.{◌+◌, ◌≤◌, ◌^◌};
+    ghost use Rattle.std.specs.List.Sorted.{IsNonDecreasingBy};
+    ghost use Rattle.table_rows.specs.Tables.{StoredBlank};
+    ghost use Rattle.book_lines.specs.Lists.{lot_line};
 
-fn push_lot(
-    text: &mut Vec<u8>,
-    form: Form,
-    blanks: &[StoredBlank],
-    lot: &StoredLot,
-) -> Result<(), AllocError>
-    requires rising { IsNonDecreasingBy (λ (b : BlankValue). b.serial) blanks.now }
-    requires range { lot.now.lot.first + lot.now.lot.count ≤ 10 ^ 18 }
-    ensures { OnOk result
-        (text.new.items ≡ text.old.items ++ line_text form (lot_line blanks.now lot.now)) }
-{
-    let charged = charged_in(blanks, lot);
-    let cells = [
-        word("name", &lot.name),
-        word("product", &lot.product),
-        digits("first", lot.low_serial),
-        number("count", u64::from(lot.amount)),
-        number("free", free(lot, charged)),
-        number("used", used(charged)),
-        number("discarded", lot.discarded),
-    ];
-    push_line(text, form, "lot", &cells)
+    ghost fits = { λ t l. IsNonDecreasingBy (λ (b : StoredBlank). b.serial) t.blanks
+        × (l.lot.first + l.lot.count ≤ 10 ^ 18) };
+
+    ghost line = { λ t l. lot_line t.blanks l };
+
+    fn print(&self, text: &mut Vec<u8>, form: Form, tables: &Tables) -> Result<(), AllocError> {
+        let charged = charged_in(&tables.blanks, self);
+        let cells = [
+            word("name", &self.name),
+            word("product", &self.product),
+            digits("first", self.low_serial),
+            number("count", u64::from(self.amount)),
+            number("free", free(self, charged)),
+            number("used", used(charged)),
+            number("discarded", self.discarded),
+        ];
+        push_line(text, form, "lot", &cells)
+    }
 }
 
 // Returns the number of blanks in `lot` that aren't charged.
@@ -164,33 +141,17 @@ fn between(blanks: &[StoredBlank], low: u64, end: u64) -> &[StoredBlank]
 
 // ---- batches
 
-fn push_batches(
-    text: &mut Vec<u8>,
-    form: Form,
-    tables: &Tables,
-    batches: &[StoredBatch],
-) -> Result<(), AllocError>
-    requires { AreReady tables.now }
-    ensures { OnOk result
-        (text.new.items ≡ text.old.items ++ lines_by form (batch_line tables.now) batches.now) }
-{
-    for batch in batches {
-        push_batch(text, form, tables, batch)?;
-    }
-    Ok(())
-}
+impl Printed for StoredBatch {
+    ghost use Rattle.audit_order.specs.Order.{AreReady};
+    ghost use Rattle.book_lines.specs.Lists.{batch_line};
 
-fn push_batch(
-    text: &mut Vec<u8>,
-    form: Form,
-    tables: &Tables,
-    batch: &StoredBatch,
-) -> Result<(), AllocError>
-    requires { AreReady tables.now }
-    ensures { OnOk result
-        (text.new.items ≡ text.old.items ++ line_text form (batch_line tables.now batch.now)) }
-{
-    push_line(text, form, "batch", &batch_cells(tables, batch))
+    ghost fits = { λ t b. AreReady t };
+
+    ghost line = { λ t b. batch_line t b };
+
+    fn print(&self, text: &mut Vec<u8>, form: Form, tables: &Tables) -> Result<(), AllocError> {
+        push_line(text, form, "batch", &batch_cells(tables, self))
+    }
 }
 
 /// Returns the cells of the line of `batch`.
