@@ -9,6 +9,6 @@ use denote.Ref.{Bor}
 abbrev pub named : Bor (List ℕ) × ℕ → List ℕ × ℕ
 named pair = (pair.0.now, pair.1)
 
--- the release mark of `client` in the map `uptos`, or 0 if there is none
+-- the release mark of `client` in the map `uptos`, or 0 if the map lacks `client`
 unfoldable pub mark_at : BTreeMap (Bor (List ℕ)) ℕ → List ℕ → ℕ
 mark_at uptos client = unwrap_or (get_by (λ name. slice_cmp nat_cmp client name.now) uptos) 0

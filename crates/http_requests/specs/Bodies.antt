@@ -38,7 +38,7 @@ primitive_of (string s) = string s
 primitive_of (array ds) = null
 primitive_of (object ms) = null
 
--- the members with null in place of structured values
+-- the members, with each structured value replaced by null
 abbrev pub primitives_of : Members → Members
 primitives_of no_members = no_members
 primitives_of (member name d more) = member name (primitive_of d) (primitives_of more)
@@ -46,7 +46,7 @@ primitives_of (member name d more) = member name (primitive_of d) (primitives_of
 unfoldable pub known_primitives : Members → Option Members
 known_primitives ms = if are_known ms then Some (primitives_of ms) else None
 
--- the object in `body` with null in place of structured values, if each of its names is known: no
+-- the object in `body`, with each structured value replaced by null, if all its names are known: no
 -- request has another member, or a structured value
 unfoldable pub object_in : List ℕ → Option Data
 object_in body = option_map object (option_and_then known_primitives (option_and_then as_object (value_in body)))

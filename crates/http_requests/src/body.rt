@@ -23,7 +23,7 @@ use std::str::from_utf8;
 /// itself, these are the 127 levels of `serde_json`.
 const MOST_DEPTH: usize = 126;
 
-/// A primitive value, or `Null` in place of a structured value.
+/// A primitive value, or `Null`, which replaces a structured value.
 #[derive(Clone, Copy, Drop)]
 enum Primitive<'a> {
     Null,
@@ -61,8 +61,8 @@ impl From<AllocError> for Unread {
     }
 }
 
-/// Returns the object in `body` with null in place of structured values, or `None` if `body` isn't
-/// an object whose members are those of requests. The first other name ends the reading.
+/// Returns the object in `body`, with each structured value replaced by null. Returns `None` if
+/// `body` isn't an object, or at the first member that no request has.
 ///
 /// # Errors
 ///

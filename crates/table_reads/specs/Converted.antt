@@ -7,7 +7,7 @@ use Rattle.sqlite.specs.Term.{Term}
 use Rattle.table_reads.specs.Whole.{AreShown, Asks, with_rowid}
 use Rattle.table_reads.specs.declared.reads.TableRows.{TableRows}
 
--- The values `xs` are those of all stored rows, in any order. `apart` tells whether all rowids are
+-- `xs` has the value of each stored row, in any order. `apart` tells whether all rowids are
 -- different.
 pub record AreTyped {X : Type 0} (gives : Row → X → Type 0) (columns : List Term) (stored : List Row) (xs : List X) (apart : Bool) : Type 0 where
   pub rows : List Row
