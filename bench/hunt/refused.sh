@@ -7,8 +7,7 @@
 # Requires cc. The script runs most tests of `trials` and `table_trials`, and the tests in `socket_trials::memory`.
 #
 # An allocation fails in a child of the test, which then runs to its end. If a test makes more than 100,000 allocations, about 2,000 of them
-# are selected, evenly spread. In `socket_trials::memory` first only this allocation fails, and then also all later ones. A test with files in
-# its own folder runs again for each allocation, and may end with the error that it is out of memory.
+# are selected, evenly spread. In `socket_trials::memory` first only this allocation fails, and then also all later ones.
 #
 # The script lists the children that fail, are killed or take over 60 seconds. Exit status: 1 if there is one, or if no allocation failed.
 #
@@ -29,31 +28,11 @@ refuse() {
     tail -n 1 "$folder/report"
 }
 
-# Makes each of the $2 allocations of the test $1 fail, in a run with a folder of its own. Prints what `refuse` prints.
-refuse_alone() {
-    seq "$2" | xargs -P "$(nproc)" -n 100 bash -c 'run_alone "$@"' "$1" >"$folder/wrong"
-    cat "$folder/wrong" >>"$folder/failed"
-    echo "$2 $2 $(wc -l <"$folder/wrong")"
-}
-
 # Does what `refuse` does, and lists the children that failed.
 refuse_each() {
     refuse "$@"
     sed -n "s/^allocation /$1: &/p" "$folder/report" >>"$folder/failed"
 }
-
-# Runs the test $0 once for each of the given allocations, which fails. Prints the runs that end wrongly.
-run_alone() {
-    local at room said
-    room=$(mktemp -d "$folder/room.XXXXXX")
-    for at; do
-        said=$(TMPDIR=$room LD_PRELOAD=$folder/refused.so AT=$at "$program" "$0" 2>&1) ||
-            [[ $said =~ ^'error: '[^$'\n']*(Memory|AllocError) ]] || echo "$0: allocation $at: ${said//$'\n'/; }"
-    done
-    rm -rf "$room"
-}
-export -f run_alone
-export folder program
 
 left_out='::(a_stop_at_each_call_|files_)|^(damaged|carried|lots|places|flipped|power_cuts|drains|limits|lost|peers|ports)::'
 tests=0 total=0 failed=0
@@ -61,10 +40,7 @@ for program in "$1" "$2" "$3"; do
     for test in $("$program" --list | sed -n 's/: test$//p' | grep -vE "$left_out" | grep -F -- "${4:-}"); do
         read -r asked _ <<<"$(refuse "$test" 1000000000)"
         step=$((asked > 100000 ? asked / 2000 + 1 : 1))
-        case $test in
-        causes::*) read -r asked refused wrong <<<"$(refuse_alone "$test" "$asked")" ;;
-        *) read -r asked refused wrong <<<"$(refuse_each "$test" "$step")" ;;
-        esac
+        read -r asked refused wrong <<<"$(refuse_each "$test" "$step")"
         echo "$test: $refused of $asked"
         tests=$((tests + 1)) total=$((total + refused)) failed=$((failed + wrong))
         [ "$program" = "$3" ] || continue

@@ -12,7 +12,7 @@ use reply_store::handle;
 use std::alloc::{AllocError, Global};
 use std::process::Abort;
 use std::test::Fail;
-use worked_files::{JSON, post, reply_bytes};
+use worked_files::post;
 
 /// The path and the body of a request, and the status and the body of its reply.
 #[derive(Clone, Copy)]
@@ -28,12 +28,6 @@ impl Exchange {
     pub(crate) fn message(&self, alloc: Global) -> Result<Vec<u8>, AllocError> {
         let Exchange(target, body, ..) = *self;
         post(alloc, target, body.as_bytes())
-    }
-
-    /// Returns the bytes of the HTTP response with the reply.
-    pub(crate) fn reply(&self, alloc: Global) -> Result<Vec<u8>, AllocError> {
-        let Exchange(_, _, status, body) = *self;
-        reply_bytes(alloc, status, JSON, None, body.as_bytes())
     }
 }
 

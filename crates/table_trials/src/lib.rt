@@ -1,5 +1,5 @@
-//! Tests of stores that no example file can express: devices that fail, are full or lose data
-//! without an error, failed allocations, crashes, damaged files, and earlier schema versions.
+//! Tests of stores that no example file can express: failed allocations, crashes, damaged
+//! databases, earlier schema versions, and new files.
 #![tactic(auto)]
 
 // Helpers of the tests.
@@ -12,17 +12,13 @@ mod exchanges;
 #[cfg(test)]
 mod stories;
 
-// Stores over lists or tables whose device or allocations fail.
-#[cfg(test)]
-mod faults;
+// Stores over lists or tables whose allocations fail.
 #[cfg(test)]
 mod refused;
 
-// Stores over files: crashes, earlier schema versions, and refused files.
+// Stores over files: crashes, earlier schema versions, damaged databases, and new files.
 #[cfg(test)]
 mod carried;
-#[cfg(test)]
-mod causes;
 #[cfg(test)]
 mod damaged;
 #[cfg(test)]

@@ -1,14 +1,14 @@
 //! Tests that a failed allocation in the file system is reported as such, and never as a property
 //! of the path, and that a database file is created only if nothing has its path.
-use crate::causes::{folder_of, mode_of, set_mode, within, write};
 use over_tables::Wanted;
 use std::alloc::{Alloc, AllocError, AllocGlobal, Allocator, Global};
 use std::cell::Cell;
-use std::fs::{self, Files, Metadata, OpenOptions};
-use std::io::{self, ErrorKind};
-use std::os::unix::fs::symlink;
+use std::env;
+use std::fs::{self, Files, Metadata, OpenFile, OpenOptions, Permissions};
+use std::io::{self, ErrorKind, Write};
+use std::os::unix::fs::{MetadataExt, PermissionsExt, symlink};
 use std::path::PathBuf;
-use std::process::Abort;
+use std::process::{self, Abort};
 use std::test::Fail;
 use store_files::{Place, create_private, has_log, place_of};
 
@@ -102,6 +102,36 @@ impl<R: Files> Files for OutOfMemory<'_, R> {
     }
 }
 
+// Creates a folder for this process and this test, and returns its path.
+fn folder_of(rt: &HostRuntime, name: &str) -> io::Result<String> {
+    let folder = env::temp_dir(rt)?;
+    let (folder, number) = (folder.as_str(), process::id(rt.process()));
+    let path = format!(in rt.alloc(); "{folder}/neqtyrab-{name}-{number}")?;
+    fs::create_dir(rt, path.as_str())?;
+    Ok(path)
+}
+
+// Returns the path of a file in a folder.
+fn within(rt: &HostRuntime, folder: &str, name: &str) -> Result<String, AllocError> {
+    format!(in rt.alloc(); "{folder}/{name}")
+}
+
+// Creates a file with the given bytes.
+fn write(rt: &HostRuntime, path: &str, bytes: &[u8]) -> io::Result<()> {
+    let mut file = fs::create(rt, path)?;
+    file.write_all(bytes)
+}
+
+// Returns the mode of the file at `path`: its nine permission bits.
+fn mode_of(rt: &HostRuntime, path: &str) -> io::Result<u32> {
+    Ok(fs::metadata(rt, path)?.mode() & 0o777)
+}
+
+// Sets the mode of the file at `path`.
+fn set_mode(rt: &HostRuntime, path: &str, mode: u32) -> io::Result<()> {
+    fs::open(rt, path)?.set_permissions(Permissions::from_mode(mode))
+}
+
 // Checks the result of `place_of` for a failed allocation in each of its calls of the file system,
 // and for none. `answers` is the number of these calls.
 fn check_place<R: Files + AllocGlobal + Abort>(rt: &R, path: &str, answers: u32, place: Place) {
@@ -145,6 +175,7 @@ fn refused_memory_is_no_answer(rt: HostRuntime) -> Result<(), Fail> {
     check_place(&rt, none.as_str(), 4, Place::NoFile);
     let lost = within(&rt, folder, "lost/shop.db")?;
     check_place(&rt, lost.as_str(), 4, Place::NoFolder);
+    check_place(&rt, "file:shop.db", 0, Place::Special);
     fs::remove_dir_all(&rt, folder)?;
     Ok(())
 }
