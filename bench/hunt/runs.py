@@ -144,10 +144,14 @@ def outputs() -> None:
 # ---- refused files
 
 
-def refused(cause: str, database: pathlib.Path) -> None:
-    ran = run(PERSOD, "report", "--db", database, "--batch", "B1")
-    expect(f"the report of {database.name}", ran, Ran(1, [], [f'refused code=81 cause={cause} db="{database}"', "refused 81"]))
-    expect(f"the book of {database.name}", run(SHOPBOOK, "check", "--db", database).status, 1)
+def refused(cause: str, database: pathlib.Path, code: int = 81) -> None:
+    """Tries a file with both programs. Neither may modify it."""
+    before = database.read_bytes() if database.is_file() else None
+    wanted = [f'refused code={code} cause={cause} db="{database}"', f"refused {code}"]
+    expect(f"the report of {database.name}", run(PERSOD, "report", "--db", database, "--batch", "B1"), Ran(1, [], wanted))
+    book = run(SHOPBOOK, "list", "--db", database, level="")
+    expect(f"the book of {database.name}", book, Ran(1, [], wanted))
+    expect(f"the bytes of {database.name}", database.read_bytes() if database.is_file() else None, before)
 
 
 def causes(folder: pathlib.Path) -> None:
@@ -164,6 +168,16 @@ def causes(folder: pathlib.Path) -> None:
     linked.unlink()
     refused("not-sqlite", text)
     refused("invalid-database", cut)
+    half, changed, empty = folder / "half.db", folder / "changed.db", folder / "empty.db"
+    half.write_bytes(sound.read_bytes()[: sound.stat().st_size // 2])
+    refused("corrupt", half)
+    make(changed, rows(RICH), Shape(indices=OURS), "UPDATE lot SET discarded = discarded + 1")
+    refused("lot-counters", changed, 82)
+    make(changed, rows(RICH), Shape(indices=OURS), "DROP TABLE mark")
+    refused('missing-table table="mark"', changed)
+    empty.touch()
+    ran = run(PERSOD, "report", "--db", empty, "--batch", "B1")
+    expect("the report of an empty file", ran, Ran(1, [], [f'refused code=81 cause=empty db="{empty}"', "refused 81"]))
     server = Server(PERSOD, sound, free_port())
     refused("in-use", sound)
     server.kill()
@@ -319,12 +333,16 @@ def killed(folder: pathlib.Path) -> None:
     server.kill()
     before = database.read_bytes(), wal.read_bytes()
     expect("the WAL", len(before[1]) > 0, True)
+    expect("the mode of the WAL", wal.stat().st_mode & 0o777, 0o600)
     cards = run(SHOPBOOK, "cards", "--db", database, "--batch", "B1")
     expect("the cards", (cards.status, cards.errors), (0, []))
     expect("the files", (database.read_bytes(), wal.read_bytes()), before)
-    server = Server(PERSOD, database, free_port(), len(STORY))
+    events = folder / "events"
+    server = Server(PERSOD, database, free_port(), len(STORY), events=events)
     send_story(server.port)
     server.served()
+    first = events.read_text().splitlines()[0]
+    expect("the first event line", sorted(first.split()), sorted(["opened", "log=taken", "batches=1", "sessions=1", "replies=10", f'db="{database}"']))
 
 
 def books(folder: pathlib.Path) -> None:
