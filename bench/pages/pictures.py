@@ -34,7 +34,7 @@ SECTIONS = {
     "Repeated requests": (590, 628, 260, 92, 2, "each request number has one effect"),
     "Other stores": (892, 280, 188, 92, 1, "lists; a faulty device"),
     "Reference model": (20, 752, 1060, 56, 7, "a request to a reply and a change"),
-    "Planning": (20, 838, 1060, 56, 7, "batch file to planned and printed commands"),
+    "Planning": (20, 838, 1060, 56, 8, "batch file to planned and printed commands"),
     "Rattle toolchain": (20, 924, 1060, 121, 8, "libraries that the crates use"),
 }
 # Functions and types: column, row and width in columns, crates, and what their contracts state. Definitions have a file of specs.

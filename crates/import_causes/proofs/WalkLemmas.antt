@@ -1,0 +1,77 @@
+-- Proves that reading the rows of a file one by one finds the rows of a record.
+use Rattle.std.proofs.Common.{◌≡◌, ◌≤◌, ◌<◌, ◌+◌, ℕ, Bool, List, [], ◌∷◌, ◌++◌, length, Option, Some, None, Ok, refl, sym, subst, ap, ◌∙◌, arith, append-nil}
+use Rattle.std.proofs.lemmas.List.{append_assoc, length-append}
+use Rattle.std.proofs.lemmas.List.Elements.{All-nil, All-push}
+use Rattle.store_data.specs.Sequence.{IsRow}
+use Rattle.store_data.specs.declared.row.Row.{Row}
+use Rattle.batch_import.specs.Batch.{Coming, coming_of, no_more}
+use Rattle.batch_import.specs.Rows.{IsDue, Left, TakesRow, fault_only, row_then}
+use Rattle.batch_import.specs.Walks.{coming_count, rows_then}
+use Rattle.batch_import.specs.declared.fault.ImportFault.TheVariants as fault
+use Rattle.batch_import.specs.declared.fault.RowFault.{RowFault}
+use Rattle.batch_import.proofs.WalkLemmas.{coming_of-few}
+use Rattle.import_causes.specs.Causes.{Numbered}
+use Rattle.import_causes.specs.Pairs.{rows_named, with_named}
+use Rattle.import_causes.specs.Walks.{Advances, AreRanked, IsWalked}
+use Rattle.import_causes.proofs.PairLemmas.{named-push, named-ranked}
+
+-- ---- one read
+
+pub taken-next : (old new : Left) (more : Coming) (o : Option Row) → old ≡ Ok more → TakesRow old (Ok o) new → Advances more o new
+taken-next old new more (Some row) is (rest, was, now) =
+    let both : Ok more ≡ Ok (row_then row rest) = sym is ∙ was in
+    let same : more ≡ row_then row rest = cc in
+    (rest, same, now)
+taken-next old new more None is (was, now) =
+    let both : Ok more ≡ Ok no_more = sym is ∙ was in
+    let same : more ≡ no_more = cc in
+    ap (λ (c : Coming). c.rows) same
+
+-- no row is returned after a fault
+pub due-none : (old : Left) (more : Coming) (f : RowFault) → old ≡ Ok more → IsDue old (fault.At f) → more.rows ≡ []
+due-none old more f is due =
+    let here : more ≡ fault_only f = subst (λ (l : Left). IsDue l (fault.At f)) is due in
+    ap (λ (c : Coming). c.rows) here
+
+-- after a row was returned, fewer rows are to come
+pub fewer : (left next : Left) (more : Coming) (row : Row) → left ≡ Ok more → Advances more (Some row) next → coming_count next < coming_count left
+fewer left next more row is (rest, was, now) =
+    omega (arith, ap coming_count now, ap coming_count is, ap (λ (c : Coming). length c.rows) was)
+
+-- ---- the loop over the rows
+
+pub walked-start : (check : Bool) (raw name : List ℕ) (left : Left) → left ≡ Ok (coming_of check raw) → IsWalked check raw name [] 2 left
+walked-start check raw name left is = record {
+  taken = [];
+  more = coming_of check raw;
+  left_is = is;
+  all = refl;
+  numbered = refl;
+  kept_are = refl;
+  each = All-nil IsRow;
+}
+
+module _ (check : Bool) (raw name : List ℕ) (kept : List Numbered) (number : ℕ) (left : Left) (walked : IsWalked check raw name kept number left) where
+  pub taken-few : length walked.taken ≤ 4096
+  taken-few = omega (arith, coming_of-few check raw, ap (λ (c : Coming). length c.rows) walked.all, length-append walked.taken walked.more.rows)
+
+  pub walked-more : (row : Row) (next : Left) → Advances walked.more (Some row) next → IsRow row → IsWalked check raw name (with_named name kept number row) (number + 1) next
+  walked-more row next (rest, is, now) ranged = record {
+    taken = walked.taken ++ row ∷ [];
+    more = rest;
+    left_is = now;
+    all = walked.all ∙ ap (rows_then walked.taken) is
+        ∙ ap (λ (rows : List Row). record { rows = rows; fault = rest.fault }) (sym (append_assoc walked.taken (row ∷ []) rest.rows));
+    numbered = omega (arith, walked.numbered, length-append walked.taken (row ∷ []));
+    kept_are = ap (λ (rows : List Numbered). with_named name rows number row) walked.kept_are ∙ sym (named-push name walked.taken row number walked.numbered);
+    each = All-push IsRow walked.taken row walked.each ranged;
+  }
+
+  -- all rows were read
+  pub walked-all : walked.more.rows ≡ [] → kept ≡ rows_named name (coming_of check raw).rows
+  walked-all none =
+      let all : (coming_of check raw).rows ≡ walked.taken = ap (λ (c : Coming). c.rows) walked.all ∙ ap (λ (rows : List Row). walked.taken ++ rows) none ∙ append-nil walked.taken in
+      walked.kept_are ∙ ap (rows_named name) (sym all)
+
+  pub walked-ranked : AreRanked kept
+  walked-ranked = subst AreRanked (sym walked.kept_are) (named-ranked name walked.taken taken-few walked.each)
