@@ -13,6 +13,7 @@ use Rattle.httparse.specs.declared.spans.HeaderSpan.{HeaderSpan}
 use Rattle.httparse.specs.Spans.{header_bytes, span_bytes}
 use Rattle.text_io.proofs.NumberLemmas.{digit_of}
 use Rattle.http_messages.specs.declared.fixed.FixedReply.TheVariants.{Malformed}
+use Rattle.http_messages.specs.declared.flaw.Flaw.TheVariants as flaw
 use Rattle.http_messages.specs.Heads.{Pair, body_size, is_named, size_in}
 use Rattle.text_io.specs.Inputs.{most_input}
 use Rattle.http_messages.specs.HeadTests.{counted, one_more, size_after, size_by, values}
@@ -71,10 +72,10 @@ size_by_in [] = refl
 size_by_in (f ∷ []) = refl
 size_by_in (f ∷ g ∷ fields) = refl
 
-after_coding : (coded : List Pair) (is_coded : Bool) (sizes : List Pair) → is_coded ≡ is_some_of coded → cond is_coded (Err Malformed) (size_in sizes) ≡ size_after (counted coded) (counted sizes)
-after_coding [] b sizes is = ap (λ (c : Bool). cond c (Err Malformed) (size_in sizes)) is ∙ size_by_in sizes
-after_coding (f ∷ []) b sizes is = ap (λ (c : Bool). cond c (Err Malformed) (size_in sizes)) is
-after_coding (f ∷ g ∷ more) b sizes is = ap (λ (c : Bool). cond c (Err Malformed) (size_in sizes)) is
+after_coding : (coded : List Pair) (is_coded : Bool) (sizes : List Pair) → is_coded ≡ is_some_of coded → cond is_coded (Err (Malformed flaw.TransferEncoding)) (size_in sizes) ≡ size_after (counted coded) (counted sizes)
+after_coding [] b sizes is = ap (λ (c : Bool). cond c (Err (Malformed flaw.TransferEncoding)) (size_in sizes)) is ∙ size_by_in sizes
+after_coding (f ∷ []) b sizes is = ap (λ (c : Bool). cond c (Err (Malformed flaw.TransferEncoding)) (size_in sizes)) is
+after_coding (f ∷ g ∷ more) b sizes is = ap (λ (c : Bool). cond c (Err (Malformed flaw.TransferEncoding)) (size_in sizes)) is
 
 pub body_size_by : (fields : List Pair) → body_size fields ≡ size_after (values (codes "transfer-encoding") fields) (values (codes "content-length") fields)
 unfolding body_size

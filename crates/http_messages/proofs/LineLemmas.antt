@@ -12,6 +12,7 @@ use Rattle.httparse.specs.declared.spans.HeaderSpan.{HeaderSpan}
 use Rattle.httparse.specs.declared.spans.RequestSpans.{RequestSpans}
 use Rattle.httparse.specs.Spans.{IsRequestAt, header_bytes, span_bytes}
 use Rattle.http_messages.specs.declared.fixed.FixedReply.TheVariants.{Malformed}
+use Rattle.http_messages.specs.declared.flaw.Flaw.TheVariants as flaw
 use Rattle.http_messages.specs.declared.fixed.FixedReply.{FixedReply}
 use Rattle.http_messages.specs.Heads.{HeadParts, IsJudged, parts_of, bare_lf_after, body_size, sized, has_bare_lf, pairs, pairs_after}
 
@@ -70,7 +71,7 @@ few_fields head h reads = omega (
 few_pairs : (head : List ℕ) → has_bare_lf head ≡ false → nat_lt 34 (pairs head) ≡ false → lfs head ≤ 34
 few_pairs head whole few = let same = pairs_are_lfs false head whole in grind (arith, nat_tests, same, few)
 
-pub judged_unread : (head : List ℕ) → has_bare_lf head ≡ false → nat_lt 34 (pairs head) ≡ false → ((h : RequestHead) → ReadsRequest head h [] → length h.fields ≤ 34 → ⊥) → IsJudged head (Err Malformed)
+pub judged_unread : (head : List ℕ) → has_bare_lf head ≡ false → nat_lt 34 (pairs head) ≡ false → ((h : RequestHead) → ReadsRequest head h [] → length h.fields ≤ 34 → ⊥) → IsJudged head (Err (Malformed flaw.Grammar))
 judged_unread head whole few none = record {
   bare = λ bare. absurd (not_both (has_bare_lf head) bare whole);
   many = λ _ many. absurd (not_both (nat_lt 34 (pairs head)) many few);

@@ -14,6 +14,7 @@ use Rattle.httparse.specs.Spans.{name_and_value}
 use Rattle.text_io.specs.Inputs.{most_input}
 use Rattle.http_messages.specs.declared.fixed.FixedReply.{FixedReply}
 use Rattle.http_messages.specs.declared.fixed.FixedReply.TheVariants.{HeadTooLarge, Malformed, TooLarge}
+use Rattle.http_messages.specs.declared.flaw.Flaw.TheVariants as flaw
 use Rattle.http_messages.specs.Heads.{HeadParts, IsJudged, Pair, body_size, ends_head, has_bare_lf, head_end, is_named, least, pairs, size_in, size_text, sized}
 use Rattle.http_messages.specs.Messages.{Brings, Broken, Heard, IsHeardAs, IsHeardBy, MessageParts, Refused, after_head, end_of_head}
 use Rattle.http_messages.specs.Progresses.{HasLength}
@@ -25,7 +26,7 @@ use Rattle.http_messages.proofs.BodyLemmas.{end_stays}
 size_text_fits : (text : List ℕ) (n : ℕ) → size_text text ≡ Ok n → n ≤ most_input
 unfolding size_text
 size_text_fits text n is =
-    elim (nat_lt 0 (length text) && list_all is_ascii_digit text) as (λ (b : Bool). cond (not b) (Err Malformed) (cond (nat_le (digits_value 10 text) most_input) (Ok (digits_value 10 text)) (Err TooLarge)) ≡ Ok n → n ≤ most_input) [
+    elim (nat_lt 0 (length text) && list_all is_ascii_digit text) as (λ (b : Bool). cond (not b) (Err (Malformed flaw.ContentLength)) (cond (nat_le (digits_value 10 text) most_input) (Ok (digits_value 10 text)) (Err TooLarge)) ≡ Ok n → n ≤ most_input) [
       | true ↦ λ digits. elim (cases_Bool (nat_le (digits_value 10 text) most_input)) [
         | inl fits ↦
             let small : digits_value 10 text ≤ most_input = leb-true (digits_value 10 text) most_input fits in
@@ -47,7 +48,7 @@ size_in_fits (f ∷ g ∷ more) n is = absurd (cc)
 body_size_fits : (fields : List Pair) (n : ℕ) → body_size fields ≡ Ok n → n ≤ most_input
 unfolding body_size
 body_size_fits fields n is =
-    elim (list_any (is_named (codes "transfer-encoding")) fields) as (λ (b : Bool). cond b (Err Malformed) (size_in (filter (is_named (codes "content-length")) fields)) ≡ Ok n → n ≤ most_input) [
+    elim (list_any (is_named (codes "transfer-encoding")) fields) as (λ (b : Bool). cond b (Err (Malformed flaw.TransferEncoding)) (size_in (filter (is_named (codes "content-length")) fields)) ≡ Ok n → n ≤ most_input) [
       | true ↦ λ coded. absurd (cc)
       | false ↦ λ plain. size_in_fits (filter (is_named (codes "content-length")) fields) n plain
     ] is
@@ -62,12 +63,12 @@ sized_fits method target (Err why) p fits is = absurd (cc)
 pub judged_fits : (head : List ℕ) (p : HeadParts) → IsJudged head (Ok p) → p.size ≤ most_input
 judged_fits head p judged =
     elim (cases_Bool (has_bare_lf head)) [
-      | inl bare ↦ (let refused : Ok p ≡ Err Malformed = judged.bare bare in absurd (cc))
+      | inl bare ↦ (let refused : Ok p ≡ Err (Malformed flaw.BareLf) = judged.bare bare in absurd (cc))
       | inr whole ↦ elim (cases_Bool (nat_lt 34 (pairs head))) [
         | inl many ↦ (let refused : Ok p ≡ Err HeadTooLarge = judged.many whole many in absurd (cc))
         | inr few ↦ elim (judged.either whole few) [
           | inl found ↦ sized_fits found.0.method found.0.target (body_size (map name_and_value found.0.fields)) p (body_size_fits (map name_and_value found.0.fields)) (sym found.2)
-          | inr none ↦ (let refused : Ok p ≡ Err Malformed = none.1 in absurd (cc))
+          | inr none ↦ (let refused : Ok p ≡ Err (Malformed flaw.Grammar) = none.1 in absurd (cc))
         ]
       ]
     ]

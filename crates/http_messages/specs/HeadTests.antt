@@ -9,6 +9,7 @@ use Rattle.http_messages.specs.declared.head.Found.{Found}
 use Rattle.http_messages.specs.declared.head.Found.TheVariants as found
 use Rattle.http_messages.specs.declared.fixed.FixedReply.{FixedReply}
 use Rattle.http_messages.specs.declared.fixed.FixedReply.TheVariants.{Malformed}
+use Rattle.http_messages.specs.declared.flaw.Flaw.TheVariants as flaw
 use Rattle.http_messages.specs.Heads.{HeadParts, Pair, is_named, size_text}
 
 abbrev pub parts : Result PartsValue FixedReply → Result HeadParts FixedReply
@@ -43,13 +44,13 @@ one_more many value = many
 abbrev pub size_by : Values → Result ℕ FixedReply
 size_by none = Ok 0
 size_by (one value) = size_text value
-size_by many = Err Malformed
+size_by many = Err (Malformed flaw.ContentLength)
 
 -- the size of the body, given the values of `Transfer-Encoding` and of `Content-Length`
 abbrev pub size_after : Values → Values → Result ℕ FixedReply
 size_after none size = size_by size
-size_after (one value) size = Err Malformed
-size_after many size = Err Malformed
+size_after (one value) size = Err (Malformed flaw.TransferEncoding)
+size_after many size = Err (Malformed flaw.TransferEncoding)
 
 -- the spans were found, and they are the parts of the head `h`
 abbrev pub FindsAt : List ℕ → List HeaderSpan → RequestHead → Option RequestSpans → Type 0

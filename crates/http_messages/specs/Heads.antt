@@ -10,6 +10,7 @@ use Rattle.httparse.specs.Spans.{name_and_value}
 use Rattle.std.specs.Option.{option_or}
 use Rattle.http_messages.specs.declared.fixed.FixedReply.{FixedReply}
 use Rattle.http_messages.specs.declared.fixed.FixedReply.TheVariants.{Malformed, TooLarge, HeadTooLarge}
+use Rattle.http_messages.specs.declared.flaw.Flaw.TheVariants as flaw
 
 -- ---- the end of a head
 
@@ -58,7 +59,7 @@ is_named name field = str_eq_ignore_ascii_case field.0 name
 -- digits, at most `most_input`
 unfoldable pub size_text : List ℕ → Result ℕ FixedReply
 size_text text =
-    if not (nat_lt 0 (length text) && list_all is_ascii_digit text) then Err Malformed
+    if not (nat_lt 0 (length text) && list_all is_ascii_digit text) then Err (Malformed flaw.ContentLength)
     else if nat_le (digits_value 10 text) most_input then Ok (digits_value 10 text)
     else Err TooLarge
 
@@ -66,13 +67,13 @@ size_text text =
 abbrev pub size_in : List Pair → Result ℕ FixedReply
 size_in [] = Ok 0
 size_in (f ∷ []) = size_text f.1
-size_in (f ∷ g ∷ more) = Err Malformed
+size_in (f ∷ g ∷ more) = Err (Malformed flaw.ContentLength)
 
 -- the size of the body after a head with these fields: no `Transfer-Encoding`, and at most one
 -- `Content-Length` (this project's profile, within RFC 9112 section 6.3)
 unfoldable pub body_size : List Pair → Result ℕ FixedReply
 body_size fields =
-    if list_any (is_named (codes "transfer-encoding")) fields then Err Malformed
+    if list_any (is_named (codes "transfer-encoding")) fields then Err (Malformed flaw.TransferEncoding)
     else size_in (filter (is_named (codes "content-length")) fields)
 
 -- ---- a head
@@ -92,9 +93,9 @@ parts_of h = sized h.method h.target (body_size (map name_and_value h.fields))
 
 -- `result` has the parts of `head`, or the fixed response for the first test that `head` fails
 pub record IsJudged (head : List ℕ) (result : Result HeadParts FixedReply) : Type 0 where
-  pub bare : has_bare_lf head ≡ true → result ≡ Err Malformed
+  pub bare : has_bare_lf head ≡ true → result ≡ Err (Malformed flaw.BareLf)
   pub many : has_bare_lf head ≡ false → nat_lt 34 (pairs head) ≡ true → result ≡ Err HeadTooLarge
   -- otherwise the whole of `head` matches the grammar of HTTP/1.1, or it is malformed
   pub read : has_bare_lf head ≡ false → nat_lt 34 (pairs head) ≡ false → (h : RequestHead) → ReadsRequest head h [] → result ≡ parts_of h
   pub either : has_bare_lf head ≡ false → nat_lt 34 (pairs head) ≡ false
-      → ((h : RequestHead) × ReadsRequest head h [] × (result ≡ parts_of h)) ⊎ (((h : RequestHead) → ReadsRequest head h [] → ⊥) × (result ≡ Err Malformed))
+      → ((h : RequestHead) × ReadsRequest head h [] × (result ≡ parts_of h)) ⊎ (((h : RequestHead) → ReadsRequest head h [] → ⊥) × (result ≡ Err (Malformed flaw.Grammar)))

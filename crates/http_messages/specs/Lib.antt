@@ -1,5 +1,6 @@
 pub mod Texts
 pub mod FixedReplies
+pub mod Flaws
 pub mod Heads
 pub mod HeadTests
 pub mod PieceBytes
@@ -7,4 +8,5 @@ pub mod HeadEnd
 pub mod Messages
 pub mod Progresses
 pub mod RequestHeads
+pub mod RequestLines
 pub mod ReplyParts

@@ -2,14 +2,16 @@
 ghost use Rattle.std.specs.Prelude.{◌≡◌};
 ghost use Rattle.http_messages.specs.FixedReplies.{body_of, kind_of, status_of};
 
+use crate::flaw::Flaw;
 use crate::reply::{Content, Method};
 use http::StatusCode;
 
 /// The reason for a fixed response (this project's profile).
 #[derive(Clone, Copy, Debug, PartialEq, Eq)]
 pub enum FixedReply {
-    /// An invalid head, name, request number or JSON body (status 400).
-    Malformed,
+    /// An invalid head, name, request number or JSON body (status 400). The response doesn't depend
+    /// on the flaw.
+    Malformed(Flaw),
     /// A path that the server doesn't serve (status 404).
     NoRoute,
     /// A method other than the given one, which is the only method of the path (status 405).
@@ -28,7 +30,7 @@ impl FixedReply {
         ensures { result ≡ status_of self }
     {
         let status = match self {
-            FixedReply::Malformed => StatusCode::BAD_REQUEST,
+            FixedReply::Malformed(_) => StatusCode::BAD_REQUEST,
             FixedReply::NoRoute => StatusCode::NOT_FOUND,
             FixedReply::OnlyMethod(_) => StatusCode::METHOD_NOT_ALLOWED,
             FixedReply::TooLarge => StatusCode::PAYLOAD_TOO_LARGE,
@@ -53,7 +55,7 @@ impl FixedReply {
         ensures { result.now ≡ body_of self }
     {
         match self {
-            FixedReply::Malformed => br#"{"code":400,"refused":"malformed"}"#,
+            FixedReply::Malformed(_) => br#"{"code":400,"refused":"malformed"}"#,
             FixedReply::NoRoute => br#"{"code":404,"refused":"no-route"}"#,
             FixedReply::OnlyMethod(_) => br#"{"code":405,"refused":"method"}"#,
             FixedReply::TooLarge => br#"{"code":413,"refused":"too-large"}"#,

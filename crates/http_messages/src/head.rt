@@ -11,6 +11,7 @@ ghost use Rattle.http_messages.specs.Heads.{size_text};
 ghost use Rattle.http_messages.specs.HeadTests.{IsRead, parts, found_of, one_more, size_by, values};
 
 use crate::fixed::FixedReply;
+use crate::flaw::Flaw;
 use httparse::Status;
 use httparse::spans::{EMPTY_HEADER_SPAN, HeaderSpan, RequestSpans, parse_request};
 use text_io::{MOST_INPUT, are_digits};
@@ -54,17 +55,17 @@ pub(crate) fn judge(head: &[u8]) -> Result<HeadParts<'_>, FixedReply>
     ensures { IsJudged head.now (parts result) }
 {
     if has_bare_lf(head) {
-        return Err(FixedReply::Malformed);
+        return Err(FixedReply::Malformed(Flaw::BareLf));
     }
     if pairs(head) > MOST_PAIRS {
         return Err(FixedReply::HeadTooLarge);
     }
     let mut headers = [EMPTY_HEADER_SPAN; MOST_PAIRS];
     let Some(spans) = read(head, &mut headers) else {
-        return Err(FixedReply::Malformed);
+        return Err(FixedReply::Malformed(Flaw::Grammar));
     };
     if spans.len != head.len() {
-        return Err(FixedReply::Malformed);
+        return Err(FixedReply::Malformed(Flaw::Grammar));
     }
     let size = body_size(head, &headers[..spans.headers])?;
     Ok(HeadParts {
@@ -125,7 +126,7 @@ fn body_size(head: &[u8], headers: &[HeaderSpan]) -> Result<usize, FixedReply>
 {
     match find_named(head, headers, b"transfer-encoding") {
         Found::None => size_by(find_named(head, headers, b"content-length")),
-        Found::One(_) | Found::Many => Err(FixedReply::Malformed),
+        Found::One(_) | Found::Many => Err(FixedReply::Malformed(Flaw::TransferEncoding)),
     }
 }
 
@@ -136,7 +137,7 @@ fn size_by(found: Found<'_>) -> Result<usize, FixedReply>
     match found {
         Found::None => Ok(0),
         Found::One(text) => size_text(text),
-        Found::Many => Err(FixedReply::Malformed),
+        Found::Many => Err(FixedReply::Malformed(Flaw::ContentLength)),
     }
 }
 
@@ -179,7 +180,7 @@ fn size_text(text: &[u8]) -> Result<usize, FixedReply>
     ensures { result ≡ size_text text.now }
 {
     if !is_decimal(text) {
-        return Err(FixedReply::Malformed);
+        return Err(FixedReply::Malformed(Flaw::ContentLength));
     }
     let size = capped(text);
     if size > MOST_BODY {

@@ -2,7 +2,9 @@
 //! responses and requests.
 #![tactic(auto)]
 
+mod first_line;
 mod fixed;
+mod flaw;
 mod head;
 mod message;
 mod parts;
@@ -12,7 +14,9 @@ mod request_head;
 mod settled;
 mod source;
 
+pub use first_line::request_line;
 pub use fixed::FixedReply;
+pub use flaw::{Flaw, Member};
 pub use message::{Message, Reading, read_message};
 pub use parts::reply_parts;
 pub use reply::{Content, Method, reply_head};

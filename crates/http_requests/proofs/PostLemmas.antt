@@ -16,6 +16,8 @@ use Rattle.text_io.specs.Inputs.{most_input}
 use Rattle.http_messages.specs.Messages.{Brings, IsHeardAs, MessageParts}
 use Rattle.http_messages.specs.RequestHeads.{IsHeardBefore, IsTarget, is_visible, posted, request_head}
 use Rattle.http_messages.proofs.SentHeads.{digits_are_digits}
+use Rattle.http_messages.specs.declared.flaw.Flaw.TheVariants as flaw
+use Rattle.http_requests.specs.Flaws.{body_flaw, path_flaw}
 use Rattle.http_requests.specs.Asks.{arrival_of, ask_with, asked_at, import_of, import_tail, name_in, or_malformed}
 use Rattle.text_io.specs.Numbers.{is_number, number_in}
 use Rattle.http_requests.specs.Meant.{Means, meant_by}
@@ -170,7 +172,7 @@ job_means client number body text name least most heard =
     let c : MessageParts = posted (target_with client number []) body in
     subst (λ r. Means text (meant_by r))
     (ap (λ o. asked_at o c) (job_route client number name (omega (arith, most)))
-    ∙ (λ i. or_malformed (arrival_of (name_is_read client name i) (number_is_read number least most i) (ask_with [] body) (call_in body))))
+    ∙ (λ i. or_malformed (path_flaw (name_is_read client name i) (number_is_read number least most i) (body_flaw body)) (arrival_of (name_is_read client name i) (number_is_read number least most i) (ask_with [] body) (call_in body))))
     (meant_as text (Brings c) heard)
 
 pub import_means : (client : List ℕ) (number : ℕ) (b p raw text : List ℕ) → IsTrue (is_name client) → IsTrue (is_name b) → IsTrue (is_name p) → 1 ≤ number → number < 10 ^ 18
@@ -179,5 +181,5 @@ import_means client number b p raw text name batch product least most heard =
     let c : MessageParts = posted (target_with client number (import_tail b p)) raw in
     subst (λ r. Means text (meant_by r))
     (ap (λ o. asked_at o c) (import_route client b p number name batch product (omega (arith, most)))
-    ∙ (λ i. or_malformed (arrival_of (name_is_read client name i) (number_is_read number least most i) (ask_with (import_tail b p) raw) (import_of (name_is_read b batch i) (name_is_read p product i) raw))))
+    ∙ (λ i. or_malformed (path_flaw (name_is_read client name i) (number_is_read number least most i) flaw.PathName) (arrival_of (name_is_read client name i) (number_is_read number least most i) (ask_with (import_tail b p) raw) (import_of (name_is_read b batch i) (name_is_read p product i) raw))))
     (meant_as text (Brings c) heard)

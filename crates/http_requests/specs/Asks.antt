@@ -13,9 +13,12 @@ use Rattle.http_requests.specs.declared.ask.AskFault.TheVariants as fault
 use Rattle.http_requests.specs.declared.ask.Wanted.TheVariants as wanted
 use Rattle.http_messages.specs.declared.fixed.FixedReply.{FixedReply}
 use Rattle.http_messages.specs.declared.fixed.FixedReply.TheVariants.{Malformed, NoRoute, OnlyMethod}
+use Rattle.http_messages.specs.declared.flaw.Flaw.{Flaw}
+use Rattle.http_messages.specs.declared.flaw.Flaw.TheVariants as flaw
 use Rattle.http_messages.specs.declared.reply.Method.{Method}
 use Rattle.http_messages.specs.declared.reply.Method.TheVariants.{Get, Post}
 use Rattle.http_messages.specs.Messages.{MessageParts}
+use Rattle.http_requests.specs.Flaws.{body_flaw, path_flaw}
 use Rattle.http_requests.specs.Members.{passing}
 use Rattle.http_requests.specs.Requests.{call_in}
 use Rattle.http_requests.specs.Routes.{Route, Job, Import, Batch, Report, Blanks, method_of, route_in}
@@ -59,13 +62,21 @@ ask_in (Batch batch) body = option_map (λ (name : List ℕ). asked.Account (wan
 ask_in (Report batch) body = option_map (λ (name : List ℕ). asked.Account (wanted.Report name)) (name_in batch)
 ask_in (Blanks product) body = option_map (λ (name : List ℕ). asked.Account (wanted.Blanks name)) (name_in product)
 
-abbrev pub or_malformed : Option Asked → Result Asked FixedReply
-or_malformed None = Err Malformed
-or_malformed (Some a) = Ok a
+-- the first flaw of a message with this route and body that has no request
+abbrev pub flaw_in : Route → List ℕ → Flaw
+flaw_in (Job client number) body = path_flaw (name_in client) (number_in number) (body_flaw body)
+flaw_in (Import client number batch product) body = path_flaw (name_in client) (number_in number) flaw.PathName
+flaw_in (Batch batch) body = flaw.PathName
+flaw_in (Report batch) body = flaw.PathName
+flaw_in (Blanks product) body = flaw.PathName
+
+abbrev pub or_malformed : Flaw → Option Asked → Result Asked FixedReply
+or_malformed why None = Err (Malformed why)
+or_malformed why (Some a) = Ok a
 
 abbrev pub asked_at : Option Route → MessageParts → Result Asked FixedReply
 asked_at None c = Err NoRoute
-asked_at (Some r) c = if bytes_eq c.method (method_text (method_of r)) then or_malformed (ask_in r c.body) else Err (OnlyMethod (method_of r))
+asked_at (Some r) c = if bytes_eq c.method (method_text (method_of r)) then or_malformed (flaw_in r c.body) (ask_in r c.body) else Err (OnlyMethod (method_of r))
 
 -- the request of a message, or the fixed response for the first test that fails
 abbrev pub asked_of : MessageParts → Result Asked FixedReply

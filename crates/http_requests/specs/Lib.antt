@@ -7,6 +7,7 @@ pub mod RouterRows
 pub mod Members
 pub mod Requests
 pub mod Bodies
+pub mod Flaws
 pub mod Asks
 pub mod Meant
 pub mod Posts

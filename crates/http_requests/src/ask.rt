@@ -4,16 +4,17 @@ ghost use Rattle.std.specs.Prelude.{bytes_eq, if◌then◌else◌};
 ghost use Rattle.store_data.specs.Name.{is_name};
 ghost use Rattle.job_facts.specs.Sound.{IsName};
 ghost use Rattle.http_requests.specs.Asks.{IsAsked, IsInRange, ask_in, ask_with, asked_of};
-ghost use Rattle.http_requests.specs.Asks.{import_tail};
+ghost use Rattle.http_requests.specs.Asks.{flaw_in, import_tail};
 ghost use Rattle.http_requests.specs.Asks.{method_text, or_malformed};
 ghost use Rattle.http_messages.specs.Messages.{as_parts};
 ghost use Rattle.http_requests.specs.RouterRows.{shown};
 ghost use Rattle.http_requests.specs.Routes.{Import, Job};
 ghost use Rattle.http_messages.specs.declared.fixed.FixedReply.TheVariants.{Malformed};
+ghost use Rattle.http_messages.specs.declared.flaw.Flaw.TheVariants.{PathName};
 
-use crate::request::call_of;
+use crate::flaw::call_of;
 use crate::route::{Route, Routes};
-use http_messages::{FixedReply, Message, Method};
+use http_messages::{FixedReply, Flaw, Message, Method};
 use job_facts::{Arrival, Call, Request};
 use std::alloc::{AllocError, Global};
 use std::error::Error;
@@ -139,7 +140,8 @@ fn has_method(text: &[u8], method: Method) -> bool
 
 // Returns the request of a message with this route and this body. Its method has been checked.
 fn ask_in(alloc: Global, route: Route<'_>, body: Bytes) -> Result<Asked, AskFault>
-    ensures asked { IsAsked (or_malformed (ask_in (shown route.entry) body)) result }
+    ensures asked { IsAsked (or_malformed (flaw_in (shown route.entry) body)
+        (ask_in (shown route.entry) body)) result }
     ensures ranged { IfOk result IsInRange }
 {
     match route {
@@ -158,12 +160,16 @@ fn ask_in(alloc: Global, route: Route<'_>, body: Bytes) -> Result<Asked, AskFaul
 
 // Returns the request in a JSON body, with its client and request number.
 fn job(alloc: Global, client: &[u8], number: &[u8], body: Bytes) -> Result<Asked, AskFault>
-    ensures asked { IsAsked (or_malformed (ask_in (Job client.now number.now) body)) result }
+    ensures asked { IsAsked (or_malformed (flaw_in (Job client.now number.now) body)
+        (ask_in (Job client.now number.now) body)) result }
     ensures ranged { IfOk result IsInRange }
 {
     let client = name_in(client)?;
-    let number = number_in(number).ok_or(FixedReply::Malformed)?;
-    let request = call_of(alloc, body.as_slice())?.ok_or(FixedReply::Malformed)?;
+    let number = number_in(number).ok_or(FixedReply::Malformed(Flaw::PathNumber))?;
+    let request = match call_of(alloc, body.as_slice())? {
+        Ok(request) => request,
+        Err(flaw) => return Err(AskFault::Refused(FixedReply::Malformed(flaw))),
+    };
     let ask = job_ask(alloc, body.as_slice())?;
     Ok(Asked::Arrival(Arrival {
         client,
@@ -183,11 +189,12 @@ fn import(
     body: Bytes,
 ) -> Result<Asked, AskFault>
     ensures asked { IsAsked
-        (or_malformed (ask_in (Import client.now number.now batch.now product.now) body)) result }
+        (or_malformed (flaw_in (Import client.now number.now batch.now product.now) body)
+        (ask_in (Import client.now number.now batch.now product.now) body)) result }
     ensures ranged { IfOk result IsInRange }
 {
     let client = name_in(client)?;
-    let number = number_in(number).ok_or(FixedReply::Malformed)?;
+    let number = number_in(number).ok_or(FixedReply::Malformed(Flaw::PathNumber))?;
     let batch = name_in(batch)?;
     let product = name_in(product)?;
     let ask = import_ask(alloc, &batch, &product, body.as_slice())?;
@@ -206,9 +213,9 @@ fn import(
 }
 
 fn name_in(text: &[u8]) -> Result<Name, FixedReply>
-    ensures { result ≡ (if is_name text.now then Ok text.now else Err Malformed) }
+    ensures { result ≡ (if is_name text.now then Ok text.now else Err (Malformed PathName)) }
 {
-    Name::new(text).ok_or(FixedReply::Malformed)
+    Name::new(text).ok_or(FixedReply::Malformed(Flaw::PathName))
 }
 
 // Returns the request bytes of a request in JSON, which a repeat must have too: a byte 00 and the

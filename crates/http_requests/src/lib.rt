@@ -3,6 +3,7 @@
 
 mod ask;
 mod body;
+mod flaw;
 mod meaning;
 pub mod members;
 mod post;

@@ -1,45 +1,28 @@
 //! Parses requests in JSON (RFC 8259).
-ghost use Rattle.std.specs.Prelude.{◌≡◌, ◌<◌, ◌≤◌, ◌^◌, IfOk, IfSome};
+ghost use Rattle.std.specs.Prelude.{◌≡◌, ◌<◌, ◌≤◌, ◌^◌, IfSome};
 ghost use Rattle.job_facts.specs.Requests.{IsCall, IsRequest};
 ghost use Rattle.serde_json.specs.View.{view};
-ghost use Rattle.http_requests.specs.Requests.{abort_in, answer_in, call_by_word, call_in};
+ghost use Rattle.http_requests.specs.Requests.{abort_in, answer_in, call_by_word};
 ghost use Rattle.http_requests.specs.Requests.{call_of_value};
 ghost use Rattle.http_requests.specs.Requests.{close_in, count_in, discard_in, flag_at, release_in};
 ghost use Rattle.http_requests.specs.Requests.{lot_in, number_within, open_in, product_in};
 ghost use Rattle.http_requests.specs.Requests.{remake_in, request_by_word};
 ghost use Rattle.http_requests.specs.Requests.{serial_at, session_in, withdraw_in, word_in};
 
-use crate::body::object_in;
 use crate::members::{name_at, number_at, text_at};
 use job_facts::{Call, Lot, Request};
 use serde_json::Value;
-use std::alloc::{AllocError, Global};
 use store_data::Product;
 use text_io::status_word;
 
 /// The largest serial, session number and request number (this project's profile).
-const MOST_SERIAL: u64 = 999_999_999_999_999_999;
-
-/// Returns the call in `body`, or `None` if it is invalid (this project's profile).
-///
-/// # Errors
-///
-/// Returns `AllocError` if an allocation fails.
-#[tactic(auto, using(crate::proofs::MemberLemmas::call_of_object))]
-pub(crate) fn call_of(alloc: Global, body: &[u8]) -> Result<Option<Call>, AllocError>
-    ensures value { IfOk result (λ r. r ≡ call_in body.now) }
-    ensures ranged { IfOk result (λ r. IfSome r IsCall) }
-{
-    match object_in(alloc, body)? {
-        Some(value) => Ok(call_of_value(&value)),
-        None => Ok(None),
-    }
-}
+pub(crate) const MOST_SERIAL: u64 = 999_999_999_999_999_999;
 
 // ---- calls and their members
 
+/// Returns the call in the value of a body, or `None` if it is invalid (this project's profile).
 #[tactic(auto, unfolding(crate::specs::Requests::call_of_value))]
-fn call_of_value(value: &Value) -> Option<Call>
+pub(crate) fn call_of_value(value: &Value) -> Option<Call>
     ensures value { result ≡ call_of_value (view value.now) }
     ensures ranged { IfSome result IsCall }
 {
@@ -214,7 +197,7 @@ fn count_in(value: &Value) -> Option<usize>
 }
 
 #[tactic(auto, unfolding(crate::specs::Requests::flag_at))]
-fn flag_at(value: &Value, key: &str) -> Option<bool>
+pub(crate) fn flag_at(value: &Value, key: &str) -> Option<bool>
     ensures { result ≡ flag_at key.now (view value.now) }
 {
     value.get(key)?.as_bool()
@@ -222,7 +205,7 @@ fn flag_at(value: &Value, key: &str) -> Option<bool>
 
 // Returns the number in the member `key` if it is in the range `least` to `most`.
 #[tactic(auto, unfolding(crate::specs::Requests::number_within))]
-fn number_within(value: &Value, key: &str, least: u64, most: u64) -> Option<u64>
+pub(crate) fn number_within(value: &Value, key: &str, least: u64, most: u64) -> Option<u64>
     ensures value { result ≡ number_within least most key.now (view value.now) }
     ensures ranged { IfSome result (λ n. (least ≤ n) × (n ≤ most)) }
 {
@@ -234,21 +217,21 @@ fn number_within(value: &Value, key: &str, least: u64, most: u64) -> Option<u64>
     }
 }
 
-fn serial_at(value: &Value, key: &str) -> Option<u64>
+pub(crate) fn serial_at(value: &Value, key: &str) -> Option<u64>
     ensures value { result ≡ serial_at key.now (view value.now) }
     ensures ranged { IfSome result (λ n. n ≤ MOST_SERIAL) }
 {
     number_within(value, key, 0, MOST_SERIAL)
 }
 
-fn session_in(value: &Value) -> Option<u64>
+pub(crate) fn session_in(value: &Value) -> Option<u64>
     ensures { result ≡ session_in (view value.now) }
 {
     number_within(value, "session", 1, MOST_SERIAL)
 }
 
 #[tactic(auto, unfolding(crate::specs::Requests::word_in))]
-fn word_in(value: &Value) -> Option<u16>
+pub(crate) fn word_in(value: &Value) -> Option<u16>
     ensures { result ≡ word_in (view value.now) }
 {
     status_word(text_at(value, "sw")?.as_bytes())

@@ -5,7 +5,7 @@ ghost use Rattle.job_facts.specs.Requests.{IsArrival};
 ghost use Rattle.http_requests.specs.Asks.{IsInRange};
 
 use arrivals::Kept;
-use http_messages::{FixedReply, Pieces, Reading, read_message};
+use http_messages::{FixedReply, Flaw, Pieces, Reading, read_message};
 use http_requests::{AskFault, Asked, to_ask};
 use job_facts::{Arrival, JobStore, StoreFault};
 use reply_store::handle;
@@ -49,7 +49,7 @@ fn asked(alloc: Global, bytes: &[u8]) -> Result<Asked, AskFault>
 {
     match read_message(alloc, &mut Pieces::new(bytes, 512)) {
         Reading::Message(message) => to_ask(alloc, message),
-        Reading::Broken => Err(AskFault::Refused(FixedReply::Malformed)),
+        Reading::Broken => Err(AskFault::Refused(FixedReply::Malformed(Flaw::Grammar))),
         Reading::Refused(why) => Err(AskFault::Refused(why)),
         Reading::Memory => Err(AskFault::Memory),
     }
