@@ -1,12 +1,15 @@
 -- When a new store is created, and the contents of an opened store (this project's profile).
-use Rattle.std.specs.Prelude.{◌≡◌, ◌⊎◌}
+use Rattle.std.specs.Prelude.{◌≡◌, ◌⊎◌, ℕ, Option, Some, None, IfSome}
 use Rattle.sqlite.specs.Effect.{Database}
 use Rattle.job_facts.specs.Contents.{AreSound, Contents, no_contents}
 use Rattle.job_facts.specs.Reopening.{OpensWith}
 use Rattle.job_facts.specs.Store.{State}
 use Rattle.image_laws.specs.Image.{image}
 use Rattle.sql_base.specs.Columns.{no_schema}
+use Rattle.sql_tables.specs.Alike.{HasJust}
+use Rattle.sql_tables.specs.Versions.{schema_of}
 use Rattle.sql_tables.specs.declared.versions.Version.{Version}
+use Rattle.sql_tables.specs.declared.versions.Version.TheVariants.{One, Two, Three}
 use Rattle.table_reads.specs.Holding.{HoldsRows}
 use Rattle.over_tables.specs.declared.opening.Wanted.{Wanted}
 use Rattle.over_tables.specs.declared.opening.Wanted.TheVariants.{Any, Ours}
@@ -30,3 +33,17 @@ IsOpenedWith wanted db c = (Begins wanted db × (c ≡ no_contents)) ⊎ ((¬ Be
 pub record IsOpened (wanted : Wanted) (db : Database) (store : State) : Type 0 where
   pub some : (c : Contents) × IsOpenedWith wanted db c
   pub opens : (c : Contents) → IsOpenedWith wanted db c → OpensWith store c
+
+-- ---- older versions
+
+-- the number of a schema version that is older than the current one
+abbrev pub older_number : Option Version → Option ℕ
+older_number None = None
+older_number (Some One) = Some 1
+older_number (Some Two) = Some 2
+older_number (Some Three) = None
+
+-- `older` is the number of the schema version of the database, if the version was found and is
+-- older than the current one
+abbrev pub IsOlder : Database → Option ℕ → Type 0
+IsOlder db older = (found : Option Version) × IfSome found (λ v. HasJust db.schema (schema_of v)) × (older ≡ older_number found)

@@ -13,5 +13,5 @@ mod serving;
 pub use cause::Cause;
 pub use drilling::drill_engine;
 pub use fault::{DAMAGED, FileFault, NOT_OURS};
-pub use opening::{Wanted, begins, store_over};
+pub use opening::{Wanted, begins, older_version, store_over};
 pub use serving::serve_over_tables;

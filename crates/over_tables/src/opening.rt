@@ -3,13 +3,14 @@ ghost use Rattle.std.specs.Prelude.{◌≡◌, ◌↔◌, false, IfErr, IfOk, Is
 ghost use Rattle.sqlite.specs.Held.{state};
 ghost use Rattle.sqlite.specs.State.{HasCleanDisk};
 ghost use Rattle.schema.specs.Stores.{connection, stands_for};
-ghost use Rattle.over_tables.specs.Opens.{Begins, IsOpened};
+ghost use Rattle.over_tables.specs.Opens.{Begins, IsOlder, IsOpened, older_number};
 ghost use Rattle.over_tables.specs.Refusals.{IsRefused};
 
 use crate::fault::FileFault;
 use crate::refusing::with_cause;
 use schema::SqlStore;
 use sql_base::is_empty;
+use sql_tables::{Version, version_in};
 use sqlite::{Alter, Connection};
 use std::alloc::Global;
 
@@ -31,6 +32,28 @@ pub fn begins<S: Alter>(conn: &Connection<S>, wanted: Wanted) -> bool
     match wanted {
         Wanted::Any => is_empty(conn.schema()),
         Wanted::Ours => false,
+    }
+}
+
+/// Returns the number of the schema version of the database if it is older than the current one,
+/// for an event line. The result is also `None` if an allocation fails.
+pub fn older_version<S: Alter>(alloc: Global, conn: &Connection<S>) -> Option<u8>
+    ensures { IsOlder (state S.Store conn.now).now result }
+{
+    match version_in(alloc, conn) {
+        Ok(found) => older_number(found),
+        Err(_) => None,
+    }
+}
+
+fn older_number(found: Option<Version>) -> Option<u8>
+    ensures { result ≡ older_number found }
+{
+    match found {
+        Some(Version::One) => Some(1),
+        Some(Version::Two) => Some(2),
+        Some(Version::Three) => None,
+        None => None,
     }
 }
 

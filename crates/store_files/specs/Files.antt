@@ -40,6 +40,7 @@ module _ {D : Type 0} {g : Ghosts D} where
     pub found : Found
     pub store : SqlStore (FileStore D g) over_files
     pub is_new : IsTrue found.is_new ↔ tables.Begins wanted (file_state conn).now
+    pub older : tables.IsOlder (file_state conn).now found.older
     pub clean : HasCleanDisk (file_state (connection store)) → HasCleanDisk (file_state conn)
     pub opened : HasCleanDisk (file_state (connection store)) → tables.IsOpened wanted (file_state conn).now (stands_for over_files store)
     pub ran : Ran found (stands_for over_files store) (AtEnd g) done

@@ -9,7 +9,7 @@ use crate::faults::absent;
 use crate::new_file::create_private;
 use crate::place::{has_log, is_missing, place_of};
 use crate::wal::open_whole;
-use over_tables::{FileFault, Wanted, begins, store_over};
+use over_tables::{FileFault, Wanted, begins, older_version, store_over};
 use schema::SqlStore;
 use sqlite::{Connection, FileFrom, FileStore};
 use sqlite_disk::{Disk, Start};
@@ -44,6 +44,8 @@ pub struct Found {
     /// `true` if there was a WAL next to the file that was longer than after an ordinary exit, so
     /// it may have commits for the file.
     pub has_log: bool,
+    /// The number of the older schema version from which the database was upgraded, if it was.
+    pub older: Option<u8>,
 }
 
 /// Opens the store in the database file at `path`, and performs `task`, which closes the store.
@@ -99,8 +101,16 @@ fn run_over<T: StoreTask + Drop, D: Disk + Drop>(
     ensures turned_down { IfErr result (IsTurnedDown conn wanted) }
 {
     let is_new = begins(&conn, wanted);
+    let older = older_version(alloc, &conn);
     match store_over(alloc, conn, wanted) {
-        Ok(store) => Ok(task.perform(store, Found { is_new, has_log })),
+        Ok(store) => Ok(task.perform(
+            store,
+            Found {
+                is_new,
+                has_log,
+                older,
+            },
+        )),
         Err((_, fault)) => Err(fault),
     }
 }

@@ -2,9 +2,10 @@ use Rattle.store_files.proofs.file.run_over.Goals as goal
 
 pub returns-in-Ok-clause-done : goal.returns-in-Ok-clause-done
 returns-in-Ok-clause-done g c = record {
-  found = record { is_new = c.begins-is_new.result; has_log = c.args.has_log };
+  found = record { is_new = c.begins-is_new.result; has_log = c.args.has_log; older = c.older_version-older.result };
   store = c.in-Ok.store;
   is_new = c.begins-is_new.ensures;
+  older = c.older_version-older.ensures;
   clean = c.in-Ok.ensures.clean;
   opened = c.in-Ok.ensures.taken;
   ran = c.perform.ensures;
