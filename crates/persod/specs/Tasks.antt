@@ -36,7 +36,7 @@ end_of_serve (Err stop) = end_of_serve_stop stop
 
 -- The event line about the database file has the path of the task, and says how the file was found.
 abbrev pub IsOpening : ServeTask → Found → Opened → Type 0
-IsOpening task found opened = (opened.path.now ≡ task.path.now) × (opened.is_new ≡ found.is_new) × (opened.has_log ≡ found.has_log)
+IsOpening task found opened = (opened.path.now ≡ task.path.now) × (opened.is_new ≡ found.is_new) × (opened.has_log ≡ found.has_log) × (opened.older ≡ found.older)
 
 -- Connections were served over the store, and the store was closed.
 pub record ServesFile (task : ServeTask) (found : Found) (old last : State) (whole : Type 0) (end : End) : Type 0 where

@@ -74,6 +74,7 @@ impl StoreTask for ServeTask<'_> {
             path: path.as_bytes(),
             is_new: found.is_new,
             has_log: found.has_log,
+            older: found.older,
         };
         match serve_over_tables(
             rt.alloc(),

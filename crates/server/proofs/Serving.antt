@@ -6,7 +6,7 @@ use Rattle.std.proofs.lemmas.List.{map_push}
 use Rattle.std.proofs.lemmas.List.Elements.{All-push, All-nil}
 use Rattle.std.proofs.lemmas.Option.{none-some}
 use Rattle.job_facts.specs.Contents.{Contents}
-use Rattle.job_facts.specs.Store.{State, IsHonest}
+use Rattle.job_facts.specs.Store.{State, IsHonest, Stays}
 use Rattle.job_facts.proofs.Lists.{each_more}
 use Rattle.arrivals.specs.Meaning.{contents_after}
 use Rattle.reply_store.specs.Runs.{Tried, arrived, decided, AreLeftInTurn, Leaves}
@@ -39,7 +39,7 @@ leaves_at state turns (Asks (asked.Account w)) s0 s1 s2 ts b leaves does = subst
 leaves_at state turns (Asks (asked.Arrival a)) s0 s1 s2 ts b leaves does =
     subst (λ (x : Bool). Leaves (state s0) (state s2) (ts ++ (arrived a, x) ∷ [])) (sym does.2) (turns.more s0 s1 s2 ts (arrived a) does.0 leaves does.1)
 
-doubts_at : (m : Meant) (old new : State) (b : Bool) → Does m old new b → old.doubts ≤ new.doubts
+pub doubts_at : (m : Meant) (old new : State) (b : Bool) → Does m old new b → old.doubts ≤ new.doubts
 doubts_at Broken old new b does = does.0.doubts
 doubts_at (Refused why) old new b does = does.0.doubts
 doubts_at (Asks (asked.Account w)) old new b does = does.0.doubts
@@ -73,6 +73,17 @@ serves_more state turns s0 s1 s2 es e all one =
       next = λ h c held. let early : IsHonest (state s1) = omega (arith, doubts_at e.meant (state s1) (state s2) b one.does) in
           each_more (NextAt c) es e (all.next early c held) (one.next (contents_after c (decided (tries es))) (all.leaves.contents early c held));
     }
+
+-- after the connections, the store was only read
+pub serves_stays : {S : Type 0} (state : S → State) → AreLeftInTurn state → (s0 s1 s2 : S) (es : List Exchange)
+    → ServesAll (state s0) (state s1) es → Stays (state s1) (state s2) → ServesAll (state s0) (state s2) es
+serves_stays state turns s0 s1 s2 es all stays = record {
+  means = all.means;
+  leaves = turns.stays s0 s1 s2 (tries es) all.leaves stays;
+  answered = λ h c held. all.answered (omega (arith, stays.doubts, h)) c held;
+  fixed = all.fixed;
+  next = λ h c held. all.next (omega (arith, stays.doubts, h)) c held;
+}
 
 -- ---- connections that were taken back
 

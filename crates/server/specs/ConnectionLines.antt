@@ -2,14 +2,22 @@
 use Rattle.std.specs.Prelude.{ℕ, ◌&&◌, ◌||◌, Bool, true, false, not, List, [], ◌∷◌, ◌++◌, bytes_eq, codes, length, if◌then◌else◌, Option, Some, None}
 use Rattle.job_facts.specs.declared.store.StoreFault.{StoreFault}
 use Rattle.job_facts.specs.declared.store.StoreFault.TheVariants as fault
+use Rattle.http_messages.specs.Flaws.{member_of, name_of, word_of}
 use Rattle.http_messages.specs.ReplyParts.{body_behind}
+use Rattle.http_messages.specs.declared.fixed.FixedReply.{FixedReply}
+use Rattle.http_messages.specs.declared.fixed.FixedReply.TheVariants.{Malformed}
+use Rattle.http_messages.specs.declared.flaw.Flaw.{Flaw}
+use Rattle.http_messages.specs.declared.flaw.Member.{Member}
+use Rattle.http_requests.specs.declared.meaning.Meaning.{Meaning}
+use Rattle.http_requests.specs.declared.meaning.Meaning.TheVariants as meaning
 use Rattle.server.specs.declared.served.End.{End}
 use Rattle.server.specs.declared.served.End.TheVariants.{Answered, Broken, WriteFailed}
 use Rattle.event_lines.specs.Lines.{number_pair, pair, quoted_pair}
 use Rattle.event_lines.specs.declared.level.Level.{Level}
 use Rattle.event_lines.specs.declared.level.Level.TheVariants.{Off, Usual, All}
 use Rattle.server.specs.Words.{RefusalWords, refusal_in, status_digits}
-use Rattle.server.specs.RequestLines.{request_line}
+use Rattle.server.specs.ImportLines.{import_lines}
+use Rattle.http_messages.specs.RequestLines.{request_line}
 use Rattle.server.specs.Observations.{fault_between}
 use Rattle.server.specs.declared.observation.Observation.{Observation}
 
@@ -57,9 +65,27 @@ refusal_pairs o = if has_status (codes "200") o then [] else words_pairs (refusa
 abbrev pub fault_pair : Observation → List ℕ
 fault_pair o = if is_unavailable o then pair (codes "fault") (fault_word (fault_between o.before o.after)) else []
 
+abbrev pub flaw_of : FixedReply → Option Flaw
+flaw_of (Malformed flaw) = Some flaw
+flaw_of _ = None
+
+-- the flaw of a malformed message
+abbrev pub flaw_in : Meaning → Option Flaw
+flaw_in (meaning.Refused why) = flaw_of why
+flaw_in _ = None
+
+abbrev pub member_pair : Option Member → List ℕ
+member_pair None = []
+member_pair (Some member) = pair (codes "member") (name_of member)
+
+-- the first test that a malformed message fails
+abbrev pub flaw_pairs : Option Flaw → List ℕ
+flaw_pairs None = []
+flaw_pairs (Some flaw) = pair (codes "cause") (word_of flaw) ++ member_pair (member_of flaw)
+
 -- the line of a connection that ended this way, without its request
 abbrev pub outcome_text : End → Observation → List ℕ
-outcome_text Answered o = codes "answered" ++ status_pair (status_digits o.reply) ++ refusal_pairs o ++ fault_pair o
+outcome_text Answered o = codes "answered" ++ status_pair (status_digits o.reply) ++ refusal_pairs o ++ fault_pair o ++ flaw_pairs (flaw_in o.meaning)
 outcome_text Broken o = codes "broken"
 outcome_text WriteFailed o = codes "unsent" ++ status_pair (status_digits o.reply)
 
@@ -90,7 +116,7 @@ own_lines Usual o = if is_accepted o then [] else connection_line o ∷ []
 own_lines All o = connection_line o ∷ []
 
 abbrev pub lines_at : Level → Bool → Observation → List (List ℕ)
-lines_at level is_failing o = recovery_lines level is_failing o ++ own_lines level o
+lines_at level is_failing o = recovery_lines level is_failing o ++ own_lines level o ++ import_lines o
 
 -- the store is failing: it returned 503 and has served no connection since then
 abbrev pub fails_after : Bool → Observation → Bool

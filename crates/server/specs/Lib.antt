@@ -7,8 +7,8 @@ pub mod Exchanges
 pub mod Serving
 pub mod Memory
 pub mod Words
-pub mod RequestLines
 pub mod Bytes
+pub mod ImportLines
 pub mod Observations
 pub mod ConnectionLines
 pub mod ServerLines

@@ -1,13 +1,17 @@
 -- Defines the observations of a server's connections, and the event lines of a whole run.
 use Rattle.std.specs.Prelude.{◌≡◌, ℕ, Bool, false, List, [], ◌∷◌, ◌++◌, length, Option, is_some, OnOk, Result, Err, ⊤}
 use Rattle.job_facts.specs.declared.store.StoreFault.{StoreFault}
-use Rattle.job_facts.specs.Store.{State}
+use Rattle.job_facts.specs.Contents.{Contents}
+use Rattle.job_facts.specs.Store.{IsHonest, State}
 use Rattle.job_facts.specs.Reopening.{counts_of}
 use Rattle.job_facts.specs.declared.server_store.FaultCounts.{FaultCounts}
-use Rattle.server.specs.Exchanges.{Exchange, Moves, Queue, ServesAll}
+use Rattle.arrivals.specs.Meaning.{contents_after}
+use Rattle.reply_store.specs.Runs.{decided}
+use Rattle.server.specs.Exchanges.{Exchange, Moves, Queue, ServesAll, tries}
 use Rattle.event_lines.specs.Notes.{NotesAll}
 use Rattle.event_lines.specs.declared.level.Level.{Level}
 use Rattle.server.specs.ConnectionLines.{connection_lines}
+use Rattle.server.specs.ImportLines.{IsProductOf}
 use Rattle.server.specs.Observations.{IsObservationOf}
 use Rattle.server.specs.declared.observation.Observation.{Observation}
 use Rattle.server.specs.Openings.{AreHoldings, closing_lines, opening_lines}
@@ -29,6 +33,15 @@ abbrev pub CountsGoOn : FaultCounts → FaultCounts → List Observation → Typ
 CountsGoOn before after [] = before ≡ after
 CountsGoOn before after (o ∷ os) = (o.before ≡ before) × CountsGoOn o.after after os
 
+-- each product that was read is the product of the import in the contents after its connection, for
+-- the contents `c` before the connections `done`, which precede these
+abbrev pub AreProducts : Contents → List Exchange → List Exchange → List Observation → Type 0
+AreProducts c done [] [] = ⊤
+AreProducts c done [] (o ∷ os) = ⊥
+AreProducts c done (e ∷ es) [] = ⊥
+AreProducts c done (e ∷ es) (o ∷ os) =
+    IsProductOf (contents_after c (decided (tries (done ++ e ∷ [])))) o.meaning o.product × AreProducts c (done ++ e ∷ []) es os
+
 -- the connections `es` were served one at a time, observed as `os`, and their event lines were
 -- written
 pub record ObservesAll {S : Type 0} (state : S → State) (old new : S) (waiting left : Option Queue) (level : Level) (before after : Option (List ℕ))
@@ -37,6 +50,7 @@ pub record ObservesAll {S : Type 0} (state : S → State) (old new : S) (waiting
   pub serves : (first : S) → ServesAll (state first) (state old) [] → ServesAll (state first) (state new) es
   pub observed : AreObservations (is_some waiting) es os
   pub counts : CountsGoOn (counts_of (state old)) (counts_of (state new)) os
+  pub products : IsHonest (state new) → (c : Contents) → (state old).holds c → AreProducts c [] es os
   pub noted : NotesAll level before after (connection_lines level false os)
 
 -- all event lines of a run, in order: the database file, the connections, and the close
@@ -58,6 +72,7 @@ pub record NotesRun (closed : Type 0) (old new : State) (known : Bool) (opened :
   pub held : AreHoldings old new holdings
   pub observed : AreObservations known es observations
   pub counts : CountsGoOn start (counts_of new) observations
+  pub products : IsHonest new → (c : Contents) → old.holds c → AreProducts c [] es observations
   pub is_closed : OnOk closing closed
   pub stop : IsStopOf result closing
   pub noted : NotesAll level before after (event_texts level opened (length es) holdings observations closing)

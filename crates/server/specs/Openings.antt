@@ -29,10 +29,18 @@ opening_line o h =
     else (codes "opened" ++ quoted_pair (codes "db") o.path.now ++ pair (codes "log") (if o.has_log then codes "taken" else codes "none")
     ++ count_pair (codes "batches") h.batches ++ count_pair (codes "sessions") h.sessions ++ count_pair (codes "replies") h.replies)
 
+-- the line of a database file that was upgraded from the schema version `version`
+abbrev pub upgrade_line : List ℕ → ℕ → List ℕ
+upgrade_line path version = codes "upgraded" ++ quoted_pair (codes "db") path ++ number_pair (codes "version") version
+
+abbrev pub upgrade_lines : List ℕ → Option ℕ → List (List ℕ)
+upgrade_lines path None = []
+upgrade_lines path (Some version) = upgrade_line path version ∷ []
+
 abbrev pub opening_lines : Level → Opened → Holdings → List (List ℕ)
 opening_lines Off o h = []
-opening_lines Usual o h = opening_line o h ∷ []
-opening_lines All o h = opening_line o h ∷ []
+opening_lines Usual o h = upgrade_lines o.path.now o.older ++ opening_line o h ∷ []
+opening_lines All o h = upgrade_lines o.path.now o.older ++ opening_line o h ∷ []
 
 -- the line after `count` connections and the close of the store
 abbrev pub closing_line : ℕ → Result (Unit {0}) StoreFault → List ℕ

@@ -1,22 +1,22 @@
 //! The event line of a connection.
 ghost use Rattle.std.specs.Prelude.{◌≡◌, ◌++◌, IfOk};
 ghost use Rattle.event_lines.specs.Views.{text_of};
-ghost use Rattle.server.specs.ConnectionLines.{connection_line, fault_pair, fault_word};
-ghost use Rattle.server.specs.ConnectionLines.{outcome_text, refusal_pairs, request_pair};
-ghost use Rattle.server.specs.ConnectionLines.{status_pair};
+ghost use Rattle.server.specs.ConnectionLines.{connection_line, fault_pair, fault_word, flaw_in};
+ghost use Rattle.server.specs.ConnectionLines.{flaw_of, flaw_pairs, member_pair, outcome_text};
+ghost use Rattle.server.specs.ConnectionLines.{refusal_pairs, request_pair, status_pair};
 
 use crate::observation::Observation;
-use crate::request_line::request_line;
 use crate::served::End;
 use crate::words::refusal_in;
 use event_lines::EventLine;
-use http_messages::reply_parts;
+use http_messages::{FixedReply, Flaw, Member, reply_parts, request_line};
+use http_requests::Meaning;
 use job_facts::StoreFault;
 use std::alloc::{AllocError, Global};
 
 /// Returns the event line of a connection: its end, the status of its response, and its request
-/// line. The line of a refusal has its code and name, and the line of a 503 has the fault of the
-/// store.
+/// line. The line of a refusal has its code and name, the line of a 503 has the fault of the store,
+/// and the line of a 400 has the flaw of the message.
 ///
 /// Only the first 256 bytes of the client are kept. They appear only up to the first CR LF, and
 /// only if they have the form of a request line. Otherwise the line has their number. A body with
@@ -52,7 +52,8 @@ fn outcome_line(alloc: Global, observation: &Observation) -> Result<EventLine, A
             let line = EventLine::new(alloc, "answered")?;
             let line = with_status(line, observation.status())?;
             let line = with_refusal(line, observation)?;
-            with_fault(line, observation)
+            let line = with_fault(line, observation)?;
+            with_flaw(line, flaw_in(&observation.meaning))
         }
         End::Broken => EventLine::new(alloc, "broken"),
         End::WriteFailed => with_status(EventLine::new(alloc, "unsent")?, observation.status()),
@@ -93,6 +94,46 @@ fn with_fault(line: EventLine, observation: &Observation) -> Result<EventLine, A
         line.word("fault", fault_word(observation.fault()))
     } else {
         Ok(line)
+    }
+}
+
+// Returns the flaw of a malformed message.
+fn flaw_in(meaning: &Meaning) -> Option<Flaw>
+    ensures { result ≡ flaw_in meaning.now }
+{
+    match meaning {
+        Meaning::Refused(why) => flaw_of(*why),
+        _ => None,
+    }
+}
+
+fn flaw_of(why: FixedReply) -> Option<Flaw>
+    ensures { result ≡ flaw_of why }
+{
+    match why {
+        FixedReply::Malformed(flaw) => Some(flaw),
+        _ => None,
+    }
+}
+
+// Adds the word of the flaw and its member, if the message is malformed. A member that no request
+// has may be card data, so no flaw has its name.
+fn with_flaw(line: EventLine, flaw: Option<Flaw>) -> Result<EventLine, AllocError>
+    ensures { IfOk result (λ more. text_of more ≡ text_of line ++ flaw_pairs flaw) }
+{
+    match flaw {
+        Some(flaw) => with_member(line.word("cause", flaw.word())?, flaw.member()),
+        None => Ok(line),
+    }
+}
+
+// Adds the name of the member, if there is one.
+fn with_member(line: EventLine, member: Option<Member>) -> Result<EventLine, AllocError>
+    ensures { IfOk result (λ more. text_of more ≡ text_of line ++ member_pair member) }
+{
+    match member {
+        Some(member) => line.word("member", member.name()),
+        None => Ok(line),
     }
 }
 

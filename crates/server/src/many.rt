@@ -31,7 +31,13 @@ pub fn serve_all<S: JobStore, C: Connections>(
     let mut turn = 0;
     while turn < turns {
         let (mut incoming, mut writer) = connections.next()?;
-        let served = serve_by(&mut routes, alloc, store, &mut incoming, &mut writer);
+        let (served, _meaning) = serve_by(
+            &mut routes,
+            alloc,
+            store,
+            &mut incoming,
+            &mut writer,
+        );
         connections.back(incoming, writer, served);
         turn += 1;
     }

@@ -1,9 +1,11 @@
 //! Writes the event lines of a connection.
-ghost use Rattle.std.specs.Prelude.{◌≡◌};
+ghost use Rattle.std.specs.Prelude.{◌≡◌, IfSome};
 ghost use Rattle.event_lines.specs.Notes.{NotesAll};
+ghost use Rattle.store_data.specs.Sequence.{IsProduct};
 ghost use Rattle.server.specs.ConnectionLines.{fails_after, lines_at, own_lines};
 ghost use Rattle.server.specs.ConnectionLines.{recovery_lines};
 
+use crate::import::note_import;
 use crate::line::connection_line;
 use crate::observation::Observation;
 use event_lines::{EventLine, EventLog, Level};
@@ -19,6 +21,7 @@ pub fn note_connection<E: Write + Drop>(
     is_failing: bool,
     observation: &Observation,
 ) -> bool
+    requires { IfSome observation.now.product IsProduct }
     ensures level { events.new.level ≡ events.old.level }
     ensures noted { NotesAll events.old.level (E.contents events.old.writer)
         (E.contents events.new.writer) (lines_at events.old.level is_failing observation.now) }
@@ -26,6 +29,7 @@ pub fn note_connection<E: Write + Drop>(
 {
     note_recovery(alloc, events, is_failing, observation);
     note_own(alloc, events, observation);
+    note_import(alloc, events, observation);
     observation.fails_after(is_failing)
 }
 

@@ -5,7 +5,9 @@ use crate::beginning::Beginning;
 use crate::kept::{REPLY_BYTES, REQUEST_BYTES};
 use crate::served::{End, Served};
 use crate::words::status_digits;
+use http_requests::Meaning;
 use job_facts::{FaultCounts, StoreFault};
+use store_data::Product;
 
 /// The observation of a served connection.
 #[derive(Drop)]
@@ -17,6 +19,10 @@ pub struct Observation {
     pub reply: Beginning<REPLY_BYTES>,
     /// The outcome of the connection.
     pub served: Served,
+    /// The meaning of its bytes.
+    pub meaning: Meaning,
+    /// The product of a refused import, if it was read.
+    pub product: Option<Product>,
     /// The fault counters of the store before the connection.
     pub before: FaultCounts,
     /// The fault counters of the store after the connection.

@@ -5,7 +5,7 @@ ghost use Rattle.http_messages.specs.Messages.{Agrees};
 ghost use Rattle.job_facts.specs.Reopening.{counts_of};
 ghost use Rattle.server.specs.Exchanges.{Exchange, Serves};
 ghost use Rattle.server.specs.Bytes.{KeepsRead, KeepsReply};
-ghost use Rattle.server.specs.Observations.{IsObservationOf};
+ghost use Rattle.server.specs.Observations.{IsMeaningOf, IsObservationOf};
 
 use crate::kept::{KeepingReader, KeepingWriter, Start};
 use crate::observation::Observation;
@@ -48,7 +48,8 @@ fn serve_from<S: ServerStore, I: ByteSource, W: Write, K: Start>(
     requires contents { W.contents writer ≡ K.contents }
     ensures served { (e : Exchange) × Agrees (I.brings incoming) e.input
         × Appends (W.contents writer) (W.contents result.1) e.written
-        × (e.served ≡ result.2.served) × Serves (S.state store.old) (S.state store.new) e }
+        × (e.served ≡ result.2.served) × Serves (S.state store.old) (S.state store.new) e
+        × IsMeaningOf result.2.meaning e.meant }
     ensures request { ∥ KeepsRead K.brings (I.brings result.0) result.2.request ∥₁ }
     ensures reply { ∥ KeepsReply result.2.served.end K.contents (W.contents result.1)
         result.2.reply ∥₁ }
@@ -58,13 +59,15 @@ fn serve_from<S: ServerStore, I: ByteSource, W: Write, K: Start>(
     let before = store.fault_counts();
     let mut incoming = KeepingReader::<I, K>::new(incoming);
     let mut writer = KeepingWriter::<W, K>::new(writer);
-    let served = serve_by(routes, alloc, store, &mut incoming, &mut writer);
+    let (served, meaning) = serve_by(routes, alloc, store, &mut incoming, &mut writer);
     let (incoming, request) = incoming.into_parts();
     let (writer, reply) = writer.into_parts(served.end);
     let observation = Observation {
         request,
         reply,
         served,
+        meaning,
+        product: None,
         before,
         after: store.fault_counts(),
     };

@@ -12,6 +12,7 @@ ghost use Rattle.http_requests.specs.Asks.{IsInRange};
 ghost use Rattle.http_messages.specs.Messages.{Agrees};
 ghost use Rattle.http_requests.specs.declared.ask.Asked.TheVariants as asked;
 ghost use Rattle.server.specs.Exchanges.{Exchange, Serves};
+ghost use Rattle.server.specs.Observations.{IsMeaningOf};
 ghost use Rattle.http_requests.specs.Meant.{Asks};
 ghost use Rattle.server.specs.Replies.{IsWritten, http_reply_text};
 ghost use Rattle.server.specs.Serving.{MayServe};
@@ -41,29 +42,38 @@ pub fn serve_one<S: JobStore, I: ByteSource, W: Write>(
         × Appends (W.contents writer.old) (W.contents writer.new) e.written
         × (e.served ≡ result) × Serves (S.state store.old) (S.state store.new) e }
 {
-    serve_by(&mut Routes::new(), alloc, store, incoming, writer)
+    let (served, _meaning) = serve_by(&mut Routes::new(), alloc, store, incoming, writer);
+    served
 }
 
-/// Serves one connection as `serve_one` does, with a router that many connections share.
+/// Serves one connection as `serve_one` does, with a router that many connections share. Also
+/// returns the meaning of its bytes, which a cause of a refusal depends on.
 pub(crate) fn serve_by<S: JobStore, I: ByteSource, W: Write>(
     routes: &mut Routes,
     alloc: Global,
     store: &mut S,
     incoming: &mut I,
     writer: &mut W,
-) -> Served
+) -> (Served, Meaning)
     ensures { (e : Exchange) × Agrees (I.brings incoming.old) e.input
         × Appends (W.contents writer.old) (W.contents writer.new) e.written
-        × (e.served ≡ result) × Serves (S.state store.old) (S.state store.new) e }
+        × (e.served ≡ result.0) × Serves (S.state store.old) (S.state store.new) e
+        × IsMeaningOf result.1 e.meant }
 {
     match read_meaning(routes, alloc, incoming) {
-        Meaning::Asks(asked) => serve_asked(alloc, store, asked, writer),
-        Meaning::Broken => Served {
-            end: End::Broken,
-            decided: false,
-        },
-        Meaning::Refused(why) => refuse(writer, why),
-        Meaning::Memory => refuse(writer, FixedReply::Storage),
+        Meaning::Asks(asked) => {
+            let served = serve_asked(alloc, store, &asked, writer);
+            (served, Meaning::Asks(asked))
+        }
+        Meaning::Broken => (
+            Served {
+                end: End::Broken,
+                decided: false,
+            },
+            Meaning::Broken,
+        ),
+        Meaning::Refused(why) => (refuse(writer, why), Meaning::Refused(why)),
+        Meaning::Memory => (refuse(writer, FixedReply::Storage), Meaning::Memory),
     }
 }
 
@@ -71,16 +81,16 @@ pub(crate) fn serve_by<S: JobStore, I: ByteSource, W: Write>(
 fn serve_asked<S: JobStore, W: Write>(
     alloc: Global,
     store: &mut S,
-    asked: Asked,
+    asked: &Asked,
     writer: &mut W,
 ) -> Served
-    requires { IsInRange asked }
+    requires { IsInRange asked.now }
     ensures { (written : List ℕ) × Appends (W.contents writer.old) (W.contents writer.new) written
-        × MayServe (Asks asked) (S.state store.old) (S.state store.new) result written }
+        × MayServe (Asks asked.now) (S.state store.old) (S.state store.new) result written }
 {
     match asked {
-        Asked::Arrival(arrival) => serve_arrival(alloc, store, &arrival, writer),
-        Asked::Account(wanted) => serve_account(alloc, store, wanted, writer),
+        Asked::Arrival(arrival) => serve_arrival(alloc, store, arrival, writer),
+        Asked::Account(wanted) => serve_account(alloc, store, *wanted, writer),
     }
 }
 

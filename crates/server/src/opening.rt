@@ -1,10 +1,11 @@
-//! Writes the event line at the start of a server, with the database file and the size of its
-//! contents.
-ghost use Rattle.std.specs.Prelude.{◌≡◌, ◌++◌, IfOk};
+//! Writes the event lines at the start of a server: the upgrade of an older database file, and the
+//! size of its contents.
+ghost use Rattle.std.specs.Prelude.{◌≡◌, ◌∷◌, ◌++◌, [], IfOk};
 ghost use Rattle.job_facts.specs.Store.{Stays};
 ghost use Rattle.event_lines.specs.Notes.{NotesAll};
 ghost use Rattle.event_lines.specs.Views.{text_of};
 ghost use Rattle.server.specs.Openings.{AreHoldings, count_pair, opening_line, opening_lines};
+ghost use Rattle.server.specs.Openings.{upgrade_line, upgrade_lines};
 ghost use Rattle.server.specs.declared.opening.Holdings.{Holdings as HoldingsValue};
 
 use event_lines::{EventLine, EventLog};
@@ -21,6 +22,8 @@ pub struct Opened<'a> {
     pub is_new: bool,
     /// `true` if the file had a WAL with frames, which were read.
     pub has_log: bool,
+    /// The number of the older schema version from which the database was upgraded, if it was.
+    pub older: Option<u8>,
 }
 
 /// The size of a store's contents. A number is `None` if it couldn't be read.
@@ -31,7 +34,7 @@ pub struct Holdings {
     pub replies: Option<u64>,
 }
 
-/// Writes the event line of the database file. If event lines are off, nothing is read for it.
+/// Writes the event lines of the database file. If event lines are off, nothing is read for them.
 pub(crate) fn note_opening<S: ServerStore, E: Write + Drop>(
     alloc: Global,
     store: &mut S,
@@ -47,6 +50,43 @@ pub(crate) fn note_opening<S: ServerStore, E: Write + Drop>(
     if !events.is_on() {
         return;
     }
+    note_upgrade(alloc, events, opened);
+    note_opened(alloc, store, events, opened);
+}
+
+// Writes the event line of the upgrade, if there was one.
+fn note_upgrade<E: Write + Drop>(alloc: Global, events: &mut EventLog<E>, opened: &Opened<'_>)
+    ensures level { events.new.level ≡ events.old.level }
+    ensures noted { NotesAll events.old.level (E.contents events.old.writer)
+        (E.contents events.new.writer) (upgrade_lines opened.now.path.now opened.now.older) }
+{
+    match opened.older {
+        Some(version) => events.note(upgrade_line(alloc, opened.path, version)),
+        None => (),
+    }
+}
+
+fn upgrade_line(alloc: Global, path: &[u8], version: u8) -> Result<EventLine, AllocError>
+    ensures { IfOk result (λ line. text_of line ≡ upgrade_line path.now version) }
+{
+    EventLine::new(alloc, "upgraded")?
+        .quoted("db", path)?
+        .number("version", u64::from(version))
+}
+
+// Writes the event line with the size of the contents.
+fn note_opened<S: ServerStore, E: Write + Drop>(
+    alloc: Global,
+    store: &mut S,
+    events: &mut EventLog<E>,
+    opened: &Opened<'_>,
+)
+    ensures stays { Stays (S.state store.old) (S.state store.new) }
+    ensures level { events.new.level ≡ events.old.level }
+    ensures noted { (h : HoldingsValue) × AreHoldings (S.state store.old) (S.state store.new) h
+        × NotesAll events.old.level (E.contents events.old.writer) (E.contents events.new.writer)
+        (opening_line opened.now h ∷ []) }
+{
     let held = if opened.is_new {
         NOTHING
     } else {

@@ -7,6 +7,7 @@ ghost use Rattle.server.specs.ObservedRuns.{ObservesAll};
 ghost use Rattle.server.specs.ServerLines.{of_next};
 
 use crate::connections::Connections;
+use crate::import::with_product;
 use crate::noted::note_connection;
 use crate::observing::serve_observed;
 use crate::stopping::ServeStop;
@@ -60,6 +61,7 @@ pub(crate) fn serve_connections<S: ServerStore, C: Connections, E: Write + Drop>
             incoming,
             writer,
         );
+        let observation = with_product(store, events.is_on(), observation);
         connections.back(incoming, writer, observation.served);
         is_failing = note_connection(alloc, events, is_failing, &observation);
         count += 1;

@@ -63,6 +63,7 @@ const OPENED: Opened<'static> = Opened {
     path: b"shop.db",
     is_new: true,
     has_log: false,
+    older: None,
 };
 
 // Serves a connection that brings only the bytes `first`, and returns its response.

@@ -26,6 +26,16 @@ const RESET: &[u8] = b"POST /c/m1/1 HTTP/1.1\r\nContent-Length: 14\r\n\r\n{\"do\
 // A request number with a leading zero.
 const MALFORMED: &[u8] = b"POST /c/office/01 HTTP/1.1\r\n\r\n";
 
+// A batch file with an empty line, whose second data row has the identifier of the first.
+const TWICE: &[u8] = b"POST /c/office/2/batch/B1/P1 HTTP/1.1\r\nContent-Length: 95\r\n\r\n\
+record,aid,rank,enc,tol,dgi\n\n\
+R1,F00000000101,1,0,0,0101027000\n\
+R1,F00000000101,2,0,0,0101027000\n";
+
+// The lowest invalid `max`.
+const MAX_256: &[u8] =
+    b"POST /c/office/3 HTTP/1.1\r\nContent-Length: 63\r\n\r\n{\"do\":\"product\",\"product\":\"P1\",\"max\":256,\"low\":0,\"check\":false}";
+
 const NO_BATCH: &[u8] = b"GET /batch/B9 HTTP/1.1\r\nHost: localhost\r\n\r\n";
 
 // A request line without its end.
@@ -39,12 +49,14 @@ const NEW: Opened<'static> = Opened {
     path: b"shop.db",
     is_new: true,
     has_log: false,
+    older: None,
 };
 
 const FOUND: Opened<'static> = Opened {
     path: b"my \"shop\".db",
     is_new: false,
     has_log: true,
+    older: None,
 };
 
 const LISTENING: &[u8] = b"listening 127.0.0.1:8807\n";
@@ -135,14 +147,14 @@ fn the_level_selects_event_lines(rt: HostRuntime) -> Result<(), Fail> {
 answered status=200 request=\"POST /c/office/1 HTTP/1.1\"
 answered status=200 request=\"POST /c/office/1 HTTP/1.1\"
 answered status=409 code=72 name=number-reused request=\"POST /c/office/1 HTTP/1.1\"
-answered status=400 code=400 name=malformed request=\"POST /c/office/01 HTTP/1.1\"
+answered status=400 code=400 name=malformed cause=number request=\"POST /c/office/01 HTTP/1.1\"
 answered status=409 code=56 name=batch-unknown request=\"GET /batch/B9 HTTP/1.1\"
 broken bytes=22
 closed connections=6
 ";
     let usual = b"made db=\"shop.db\"
 answered status=409 code=72 name=number-reused request=\"POST /c/office/1 HTTP/1.1\"
-answered status=400 code=400 name=malformed request=\"POST /c/office/01 HTTP/1.1\"
+answered status=400 code=400 name=malformed cause=number request=\"POST /c/office/01 HTTP/1.1\"
 answered status=409 code=56 name=batch-unknown request=\"GET /batch/B9 HTTP/1.1\"
 broken bytes=22
 closed connections=6
@@ -151,6 +163,26 @@ closed connections=6
     assert_ends!(rt; all_kinds(rt.alloc(), Level::All), Ok(()), lines, all);
     assert_ends!(rt; all_kinds(rt.alloc(), Level::Usual), Ok(()), lines, usual);
     assert_ends!(rt; all_kinds(rt.alloc(), Level::Off), Ok(()), lines, b"");
+    Ok(())
+}
+
+// The line of a refused import is followed by the row, the line and the field of its fault, and the
+// line of a 400 has its cause.
+#[test]
+fn refusals_have_a_cause(rt: HostRuntime) -> Result<(), Fail> {
+    let events = b"made db=\"shop.db\"
+answered status=409 code=22 name=identifier-twice request=\"POST /c/office/2/batch/B1/P1 HTTP/1.1\"
+fault code=22 name=identifier-twice row=3 other=2 line=4 record=\"R1\" field=6
+answered status=400 code=400 name=malformed cause=value member=max request=\"POST /c/office/3 HTTP/1.1\"
+closed connections=3
+";
+    let lines = b"listening 127.0.0.1:8807\nserved 3\n";
+    let texts: [&[u8]; 3] = [PRODUCT, TWICE, MAX_256];
+    let run = || {
+        let store = ListStore::new(rt.alloc());
+        served_over(rt.alloc(), store, NEW, &texts, 3, Level::Usual)
+    };
+    assert_ends!(rt; run(), Ok(()), lines, events);
     Ok(())
 }
 

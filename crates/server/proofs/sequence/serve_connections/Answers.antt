@@ -3,6 +3,8 @@ use Rattle.std.proofs.lemmas.List.{length_push}
 use Rattle.event_lines.specs.Notes.{NotesAll}
 use Rattle.event_lines.specs.declared.level.Level.{Level}
 use Rattle.server.specs.ConnectionLines.{lines_at}
+use Rattle.server.specs.declared.observation.Observation.{Observation}
+use Rattle.server.proofs.ObservationLemmas.{observes-alike, product-alike}
 use Rattle.server.proofs.RunLemmas.{fails-next, fails_through, observes-none, observes-push}
 use Rattle.server.proofs.sequence.serve_connections.Goals as goal
 
@@ -20,7 +22,8 @@ loop-count-preserved g c =
     let run = c.serve_observed-incoming.ensures in
     let one = run.served in
     let e = one.0 in
-    let o = c.serve_observed-incoming.result.2 in
+    let read = c.with_product-observation in
+    let o = read.result in
     let was = c.loop-count in
     let now = c.note_connection-is_failing in
     let mid = contents was.events.writer in
@@ -32,8 +35,8 @@ loop-count-preserved g c =
       now.ensures.level ∙ so_far.1,
       es ++ e ∷ [],
       os ++ o ∷ [],
-      observes-push g.S.JobStore.state c.left_in_turn.ensures c.args.store.now was.store c.serve_observed-incoming.new.store (queue c.args.connections.now) (queue was.connections) (queue c.next.new.self) (queue c.back.new.self) level (contents c.args.events.now.writer) mid after _ _ _ es os e o so_far.4 c.next.ensures.same c.in-Ok.ensures.opens one.1 one.2 one.3 one.4
-          run.before run.after c.back.ensures own,
+      observes-push g.S.JobStore.state c.left_in_turn.ensures c.args.store.now was.store c.serve_observed-incoming.new.store read.new.store (queue c.args.connections.now) (queue was.connections) (queue c.next.new.self) (queue c.back.new.self) level (contents c.args.events.now.writer) mid after _ _ _ es os e o so_far.4 c.next.ensures.same c.in-Ok.ensures.opens one.1 one.2 one.3 read.ensures.stays (product-alike (g.S.JobStore.state c.serve_observed-incoming.new.store) (g.S.JobStore.state read.new.store) c.serve_observed-incoming.result.2 o read.ensures.alike read.ensures.product)
+          (observes-alike _ _ e c.serve_observed-incoming.result.2 o read.ensures.alike one.4) (ap (λ (p : Observation). p.before) read.ensures.alike ∙ run.before) read.ensures.after c.back.ensures own,
       length_push es e ∙ ap (λ (n : ℕ). n + 1) so_far.5,
       fails-next was.is_failing now.result os o so_far.6 now.ensures.fails,
     )

@@ -50,11 +50,11 @@ returns-in-Err g c = (
 pub returns-in-Ok-serve_over_tables : goal.returns-in-Ok-serve_over_tables
 returns-in-Ok-serve_over_tables g c =
     let run = c.serve_over_tables.ensures in
-    let opened : Opened = record { path = c.as_bytes.result; is_new = c.args.found.is_new; has_log = c.args.found.has_log } in
-    (run.0, inl (served _ _ _ _ _ opened run.1 c.serve_over_tables.result c.port-port.result c.new.result.level _ (c.as_bytes.ensures.value, refl, refl) run.3 run.4 (c.port-port.ensures ∙ c.in-Ok.ensures) run.5 c.new.ensures.level (sym (ap end_of_serve c.in-Ok-serve_over_tables.is))))
+    let opened : Opened = record { path = c.as_bytes.result; is_new = c.args.found.is_new; has_log = c.args.found.has_log; older = c.args.found.older } in
+    (run.0, inl (served _ _ _ _ _ opened run.1 c.serve_over_tables.result c.port-port.result c.new.result.level _ (c.as_bytes.ensures.value, refl, refl, refl) run.3 run.4 (c.port-port.ensures ∙ c.in-Ok.ensures) run.5 c.new.ensures.level (sym (ap end_of_serve c.in-Ok-serve_over_tables.is))))
 
 pub returns : goal.returns
 returns g c =
     let run = c.serve_over_tables.ensures in
-    let opened : Opened = record { path = c.as_bytes.result; is_new = c.args.found.is_new; has_log = c.args.found.has_log } in
-    (run.0, inl (served _ _ _ _ _ opened run.1 c.serve_over_tables.result c.port-port.result c.new.result.level _ (c.as_bytes.ensures.value, refl, refl) run.3 run.4 (c.port-port.ensures ∙ c.in-Ok.ensures) run.5 c.new.ensures.level (c.from.ensures ∙ sym (ap end_of_serve c.in-Err-serve_over_tables.is))))
+    let opened : Opened = record { path = c.as_bytes.result; is_new = c.args.found.is_new; has_log = c.args.found.has_log; older = c.args.found.older } in
+    (run.0, inl (served _ _ _ _ _ opened run.1 c.serve_over_tables.result c.port-port.result c.new.result.level _ (c.as_bytes.ensures.value, refl, refl, refl) run.3 run.4 (c.port-port.ensures ∙ c.in-Ok.ensures) run.5 c.new.ensures.level (c.from.ensures ∙ sym (ap end_of_serve c.in-Err-serve_over_tables.is))))
