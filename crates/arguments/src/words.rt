@@ -37,6 +37,7 @@ const STATUSES: &str = "Exit statuses: 0 done; 1 refused; 2 wrong arguments; 3 s
 const STATUSES_OF_PLAN: &str = "Exit statuses: 0 done; 1 refused; 2 wrong arguments; 3 storage, \
     device or memory\n\n\
     A refused batch prints `refused N row R`. docs/PROFILE.md lists the faults by their number N.\n\
+    With PERSOD_LOG=1, an event line has the line, the field and the cause (docs/EVENTS.md).\n\
     The cards get these commands only if the options are the settings of the batch's product.";
 
 /// The end of the help of the program, and of the subcommands that write event lines.

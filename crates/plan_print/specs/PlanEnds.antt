@@ -1,8 +1,10 @@
 -- The results of `persod plan`.
-use Rattle.std.specs.Prelude.{◌≡◌, ◌<◌, ◌≤◌, ⊤, ℕ, List, length, map, Option, Some, None, Result, Ok, Err}
+use Rattle.std.specs.Prelude.{◌≡◌, ◌<◌, ◌≤◌, ⊤, ℕ, List, [], ◌∷◌, length, map, Option, Some, None, Result, Ok, Err}
 use Rattle.std.specs.Prelude.{Vec}
 use Rattle.std.specs.Global.{Global}
 use Rattle.std.specs.Io.KnownBytes.{Appends, Keeps}
+use Rattle.event_lines.specs.Notes.{NotesAll}
+use Rattle.event_lines.specs.declared.log.EventLog.{EventLog}
 use Rattle.batch_import.specs.declared.fault.ImportFault.{ImportFault}
 use Rattle.batch_import.specs.declared.fault.ImportFault.TheVariants as fault
 use Rattle.store_data.specs.declared.row.Product.{Product}
@@ -15,6 +17,7 @@ use Rattle.text_io.specs.Inputs.{most_input}
 use Rattle.text_io.specs.Written.{AppendsBeginning}
 use Rattle.text_io.specs.declared.reading.ReadFault.{ReadFault}
 use Rattle.text_io.specs.declared.reading.ReadFault.TheVariants as read
+use Rattle.import_causes.specs.Explanations.{explanation_of, fault_text}
 use Rattle.plan_print.specs.Printed.{printed}
 use Rattle.plan_print.specs.declared.plan.PlanStop.{PlanStop}
 use Rattle.plan_print.specs.declared.plan.PlanStop.TheVariants as stop
@@ -28,6 +31,27 @@ PlanEnds p raw before after (Err stop.TooLarge) = (most_input < length raw) × K
 PlanEnds p raw before after (Err stop.WriteFailed) = (rows : List Row) × (length raw ≤ most_input) × (batch_of p raw ≡ Ok rows) × AppendsBeginning before after (printed p rows)
 PlanEnds p raw before after (Err stop.ReadFailed) = Keeps before after
 PlanEnds p raw before after (Err stop.Memory) = Keeps before after
+
+-- ---- event lines
+
+-- the event lines of a run that stops with `stop`: the cause of the fault of a batch file
+abbrev pub stop_lines : Product → List ℕ → PlanStop → List (List ℕ)
+stop_lines p raw (stop.Refused fault) = fault_text (explanation_of raw p fault) ∷ []
+stop_lines p raw stop.TooLarge = []
+stop_lines p raw stop.ReadFailed = []
+stop_lines p raw stop.WriteFailed = []
+stop_lines p raw stop.Memory = []
+
+abbrev pub plan_lines : Product → List ℕ → Result (Unit {0}) PlanStop → List (List ℕ)
+plan_lines p raw (Ok u) = []
+plan_lines p raw (Err s) = stop_lines p raw s
+
+-- `PlanEnds`, and the event lines of the run were written to the log, which turned from `old` to
+-- `new`
+abbrev pub PlanEndsWithEvents : {E : Type 0} → (E → Option (List ℕ)) → Product → List ℕ → Option (List ℕ) → Option (List ℕ)
+    → EventLog E → EventLog E → Result (Unit {0}) PlanStop → Type 0
+PlanEndsWithEvents contents p raw before after old new r =
+    PlanEnds p raw before after r × NotesAll old.level (contents old.writer) (contents new.writer) (plan_lines p raw r)
 
 -- ---- intermediate results
 

@@ -1,17 +1,21 @@
 //! Plans the records of a batch file and prints their commands.
-ghost use Rattle.std.specs.Prelude.{◌≡◌, ℕ, List, All, None, map, IfOk};
+ghost use Rattle.std.specs.Prelude.{◌≡◌, ◌≤◌, ℕ, List, All, None, length, map, IfOk};
 ghost use Rattle.std.specs.List.{flat_map};
 ghost use Rattle.store_data.specs.RecordFaults.{record_fault};
 ghost use Rattle.store_data.specs.Sequence.{AreRows, IsProduct};
-ghost use Rattle.text_io.specs.Inputs.{Agrees};
+ghost use Rattle.event_lines.specs.Notes.{NotesAll};
+ghost use Rattle.text_io.specs.Inputs.{Agrees, most_input};
 ghost use Rattle.text_io.specs.Written.{Writes};
-ghost use Rattle.plan_print.specs.PlanEnds.{GroupsBatch, PlanEnds, ReadsInput, within};
+ghost use Rattle.plan_print.specs.PlanEnds.{GroupsBatch, PlanEnds, PlanEndsWithEvents, ReadsInput};
+ghost use Rattle.plan_print.specs.PlanEnds.{stop_lines, within};
 ghost use Rattle.plan_print.specs.Printed.{planned_of, text_of};
 
 use crate::print::{Planned, write_record};
 use batch_import::{ImportFault, RowFault, read_batch};
+use event_lines::{EventLog, Level};
+use import_causes::note_fault;
 use std::alloc::{AllocError, Global};
-use std::io::{Read, Write};
+use std::io::{self, Read, Write};
 use store_data::{Product, Row, grouped, plan_of_sound};
 use text_io::{MOST_INPUT, ReadFault, WriteFailed, read_within};
 
@@ -98,8 +102,71 @@ pub fn plan_engine<R: Read, W: Write>(
     ensures { (raw : List ℕ) × Agrees (R.remaining reader.old) raw
         × PlanEnds product.now raw (W.contents writer.old) (W.contents writer.new) result }
 {
+    let mut events = EventLog::new(Level::Off, io::sink());
+    plan_with_events(alloc, product, reader, writer, &mut events)
+}
+
+/// Does the same as `plan_engine`. If the batch file is refused, it also writes the event line with
+/// the cause to `events`. Event lines that can't be written are ignored.
+///
+/// # Errors
+///
+/// The same as for `plan_engine`.
+pub fn plan_with_events<R: Read, W: Write, E: Write + Drop>(
+    alloc: Global,
+    product: &Product,
+    reader: &mut R,
+    writer: &mut W,
+    events: &mut EventLog<E>,
+) -> Result<(), PlanStop>
+    requires { IsProduct product.now }
+    ensures { (raw : List ℕ) × Agrees (R.remaining reader.old) raw
+        × PlanEndsWithEvents E.contents product.now raw (W.contents writer.old)
+        (W.contents writer.new) events.old events.new result }
+{
     let raw = input(alloc, reader)?;
-    let records = records(alloc, product, raw.as_slice())?;
+    match plan_bytes(alloc, product, raw.as_slice(), writer) {
+        Ok(()) => Ok(()),
+        Err(stop) => {
+            note_stop(alloc, product, raw.as_slice(), stop, events);
+            Err(stop)
+        }
+    }
+}
+
+// Writes the event line with the cause if `stop` is a fault of the batch file.
+fn note_stop<E: Write + Drop>(
+    alloc: Global,
+    product: &Product,
+    raw: &[u8],
+    stop: PlanStop,
+    events: &mut EventLog<E>,
+)
+    requires { IsProduct product.now }
+    ensures { NotesAll events.old.level (E.contents events.old.writer)
+        (E.contents events.new.writer) (stop_lines product.now raw.now stop) }
+{
+    match stop {
+        PlanStop::Refused(fault) => note_fault(alloc, raw, product, fault, events),
+        PlanStop::TooLarge => (),
+        PlanStop::ReadFailed => (),
+        PlanStop::WriteFailed => (),
+        PlanStop::Memory => (),
+    }
+}
+
+// Prints the commands of the batch file `raw`.
+fn plan_bytes<W: Write>(
+    alloc: Global,
+    product: &Product,
+    raw: &[u8],
+    writer: &mut W,
+) -> Result<(), PlanStop>
+    requires product { IsProduct product.now }
+    requires few { length raw.now ≤ most_input }
+    ensures { PlanEnds product.now raw.now (W.contents writer.old) (W.contents writer.new) result }
+{
+    let records = records(alloc, product, raw)?;
     let plans = plans(alloc, product, records.as_slice())?;
     print(writer, plans.as_slice())?;
     Ok(())

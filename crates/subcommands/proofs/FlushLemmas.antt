@@ -3,9 +3,10 @@ use Rattle.std.proofs.Common.{◌≡◌, ◌⊎◌, ℕ, List, [], Option, Some,
 use Rattle.std.specs.Io.KnownBytes.{Appends, Keeps}
 use Rattle.std.proofs.KnownBytes.{Appends-kept}
 use Rattle.store_data.specs.declared.row.Product.{Product}
+use Rattle.event_lines.specs.declared.log.EventLog.{EventLog}
 use Rattle.text_io.specs.Inputs.{Agrees}
 use Rattle.text_io.specs.Written.{AppendsBeginning}
-use Rattle.plan_print.specs.PlanEnds.{PlanEnds}
+use Rattle.plan_print.specs.PlanEnds.{PlanEndsWithEvents}
 use Rattle.plan_print.specs.declared.plan.PlanStop.TheVariants as plan
 use Rattle.job_facts.specs.Store.{State}
 use Rattle.job_facts.specs.declared.store.StoreFault.{StoreFault}
@@ -28,12 +29,13 @@ Flushes wanted end buffer = ((end ≡ wanted) × (buffer ≡ [])) ⊎ (end ≡ W
 whole : (before mid after : Option (List ℕ)) (text : List ℕ) → Appends before mid text → Keeps mid after → AppendsBeginning before after text
 whole before mid after text written kept = (text, [], append-nil text, Appends-kept before mid after text written kept)
 
-pub plan_flushed : (p : Product) (known before mid after : Option (List ℕ)) (end : End) (buffer : List ℕ)
-    → ((raw : List ℕ) × Agrees known raw × PlanEnds p raw before mid (Ok tt)) → Keeps mid after → Flushes Done end buffer → PlanRuns p known before after end
-plan_flushed p known before mid after end buffer (raw, agrees, (rows, few, is, written)) kept (inl done) =
-    (raw, agrees, Ok tt, done.0, (rows, few, is, Appends-kept before mid after _ written kept))
-plan_flushed p known before mid after end buffer (raw, agrees, (rows, few, is, written)) kept (inr failed) =
-    (raw, agrees, Err plan.WriteFailed, failed, (rows, few, is, whole before mid after _ written kept))
+pub plan_flushed : {E : Type 0} (contents : E → Option (List ℕ)) (p : Product) (known before mid after : Option (List ℕ)) (old new : EventLog E) (end : End) (buffer : List ℕ)
+    → ((raw : List ℕ) × Agrees known raw × PlanEndsWithEvents contents p raw before mid old new (Ok tt)) → Keeps mid after → Flushes Done end buffer
+    → PlanRuns contents p known before after old new end
+plan_flushed contents p known before mid after old new end buffer (raw, agrees, ((rows, few, is, written), noted)) kept (inl done) =
+    (raw, agrees, Ok tt, done.0, ((rows, few, is, Appends-kept before mid after _ written kept), noted))
+plan_flushed contents p known before mid after old new end buffer (raw, agrees, ((rows, few, is, written), noted)) kept (inr failed) =
+    (raw, agrees, Err plan.WriteFailed, failed, ((rows, few, is, whole before mid after _ written kept), noted))
 
 -- ---- a drill
 

@@ -2,7 +2,7 @@
 use Rattle.std.specs.Prelude.{◌≡◌, ⊤, ℕ, Bool, List, codes, Option, Result}
 use Rattle.store_data.specs.declared.row.Product.{Product}
 use Rattle.text_io.specs.Inputs.{Agrees}
-use Rattle.plan_print.specs.PlanEnds.{PlanEnds}
+use Rattle.plan_print.specs.PlanEnds.{PlanEndsWithEvents}
 use Rattle.plan_print.specs.declared.plan.PlanStop.{PlanStop}
 use Rattle.over_tables.specs.Drills.{DrillEnds}
 use Rattle.drill.specs.declared.stop.DrillStop.{DrillStop}
@@ -22,11 +22,13 @@ use Rattle.arguments.specs.declared.words.Words.TheVariants.{Plan, Drill, Serve,
 abbrev pub product_of : ℕ → ℕ → Bool → Product
 product_of max low check = record { code = codes "plan"; max = max; low = low; check = check }
 
--- a run of `plan` on the input `known` turns the output `before` into `after` and ends with `end`
-abbrev pub PlanRuns : Product → Option (List ℕ) → Option (List ℕ) → Option (List ℕ) → End → Type 0
-PlanRuns p known before after end = (raw : List ℕ) × Agrees known raw
+-- a run of `plan` on the input `known` turns the output `before` into `after` and the log `old`
+-- into `new`, and ends with `end`
+abbrev pub PlanRuns : {E : Type 0} → (E → Option (List ℕ)) → Product → Option (List ℕ) → Option (List ℕ) → Option (List ℕ)
+    → EventLog E → EventLog E → End → Type 0
+PlanRuns contents p known before after old new end = (raw : List ℕ) × Agrees known raw
     × (ended : Result (Unit {0}) PlanStop) × (end ≡ end_of_plan ended)
-    × PlanEnds p raw before after ended
+    × PlanEndsWithEvents contents p raw before after old new ended
 
 -- a run of `drill` on the input `known` turns the output `before` into `after` and ends with `end`
 abbrev pub DrillRuns : Option (List ℕ) → Option (List ℕ) → Option (List ℕ) → End → Type 0
@@ -44,14 +46,15 @@ FeedRuns contents start known log_before log_after before after old new end =
     × FeedEndsWithEvents contents (at_first start.machine start.boot start.batch) known
     log_before log_after before after old new ended
 
--- a run of the given subcommand, which must be `plan` or `drill`
-abbrev pub Runs : Words → Option (List ℕ) → Option (List ℕ) → Option (List ℕ) → End → Type 0
-Runs (Plan max low check) known before after end =
-    PlanRuns (product_of max low check) known before after end
-Runs Drill known before after end = DrillRuns known before after end
-Runs (Serve db port turns) known before after end = ⊥
-Runs (Report db batch) known before after end = ⊥
-Runs (Feed port start) known before after end = ⊥
+-- a run of the given subcommand, which must be `plan` or `drill`; `drill` leaves the log as it is
+abbrev pub Runs : {E : Type 0} → (E → Option (List ℕ)) → Words → Option (List ℕ) → Option (List ℕ) → Option (List ℕ)
+    → EventLog E → EventLog E → End → Type 0
+Runs contents (Plan max low check) known before after old new end =
+    PlanRuns contents (product_of max low check) known before after old new end
+Runs contents Drill known before after old new end = DrillRuns known before after end × (new ≡ old)
+Runs contents (Serve db port turns) known before after old new end = ⊥
+Runs contents (Report db batch) known before after old new end = ⊥
+Runs contents (Feed port start) known before after old new end = ⊥
 
 -- the whole text was printed at this end
 abbrev pub IsPrinted : End → Type 0

@@ -14,29 +14,32 @@ use drill::DrillStop;
 use event_lines::EventLog;
 use feeding::{Exchange, feed_with_events};
 use over_tables::drill_engine;
-use plan_print::plan_engine;
+use plan_print::plan_with_events;
 use std::alloc::Global;
 use std::io::{BufWriter, Read, Write};
 use store_data::{Name, Product};
 
 /// Runs `words`, which must be `plan` or `drill`, from `reader` to `writer`. If the whole text was
 /// printed, it also flushes `writer`. A failed flush counts as a failed write: only a test shows
-/// this.
-pub fn run<R: Read, W: Write + Drop>(
+/// this. If `plan` refuses the batch file, it writes the event line with the cause; `drill` has no
+/// event lines.
+pub fn run<R: Read, W: Write + Drop, E: Write + Drop>(
     alloc: Global,
     words: Words,
     reader: &mut R,
     writer: &mut BufWriter<W>,
+    events: &mut EventLog<E>,
 ) -> End
     requires range { InRange words }
     requires streams { UsesStreams words }
-    ensures end { Runs words (R.remaining reader.old) (writer_contents W.contents writer.old)
-        (writer_contents W.contents writer.new) result }
+    ensures end { Runs E.contents words (R.remaining reader.old)
+        (writer_contents W.contents writer.old) (writer_contents W.contents writer.new) events.old
+        events.new result }
     ensures flushed { IsPrinted result → writer_buffer writer.new ≡ [] }
 {
     match words {
         Words::Plan { max, low, check } => {
-            run_plan(alloc, &product_of(max, low, check), reader, writer)
+            run_plan(alloc, &product_of(max, low, check), reader, writer, events)
         }
         Words::Drill => run_drill(alloc, reader, writer),
         Words::Serve { .. } | Words::Report { .. } | Words::Feed { .. } => unreachable!(),
@@ -86,18 +89,20 @@ pub fn run_feed<R: Read, W: Write, X: Exchange, E: Write + Drop>(
 }
 
 // Runs `plan`.
-fn run_plan<R: Read, W: Write + Drop>(
+fn run_plan<R: Read, W: Write + Drop, E: Write + Drop>(
     alloc: Global,
     product: &Product,
     reader: &mut R,
     writer: &mut BufWriter<W>,
+    events: &mut EventLog<E>,
 ) -> End
     requires { IsProduct product.now }
-    ensures end { PlanRuns product.now (R.remaining reader.old)
-        (writer_contents W.contents writer.old) (writer_contents W.contents writer.new) result }
+    ensures end { PlanRuns E.contents product.now (R.remaining reader.old)
+        (writer_contents W.contents writer.old) (writer_contents W.contents writer.new) events.old
+        events.new result }
     ensures flushed { IsPrinted result → writer_buffer writer.new ≡ [] }
 {
-    match plan_engine(alloc, product, reader, writer) {
+    match plan_with_events(alloc, product, reader, writer, events) {
         Ok(()) => flushed(writer, End::Done),
         Err(stop) => End::from(stop),
     }
