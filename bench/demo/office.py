@@ -27,7 +27,6 @@ import pathlib
 import random
 import re
 import ssl
-import subprocess
 import sys
 import time
 import urllib.parse
@@ -555,12 +554,9 @@ def record_states(report: str) -> dict[str, str]:
 # ---- faults of a batch file
 #
 # The reply has the code and the row. This part finds the line, record, field and cause in the file.
-# If PERSOD is the path of `persod`, and its `plan` writes an event line `fault ..`, the values of
-# that line replace them.
 
 FIELDS = ("record", "aid", "rank", "enc", "tol", "dgi")
 FIELD_OF = {32: 1, 33: 2, 34: 3, 36: 6, 37: 6}
-PAIR = re.compile(r'(\w+)=("[^"]*"|\S+)')
 
 
 class Row(NamedTuple):
@@ -577,26 +573,8 @@ def fault_lines(reply: Reply) -> list[str]:
     if row is None:
         return []
     raw = reply.request.body.encode("latin-1")
-    found = {"row": row, **fault_in(raw, code, row), **fault_event(raw, code)}
+    found = {"row": row, **fault_in(raw, code, row)}
     return ["  " + ", ".join(f"{name} {value}" for name, value in found.items())]
-
-
-def fault_event(raw: bytes, code: int) -> dict[str, str]:
-    """Returns the values of the event line of `persod plan` about this fault."""
-    if not os.environ.get("PERSOD"):
-        return {}
-    words, level = [os.environ["PERSOD"], "plan"], {**os.environ, "PERSOD_LOG": "1"}
-    try:
-        ran = subprocess.run(words, input=raw, capture_output=True, env=level, timeout=60)
-    except (OSError, subprocess.TimeoutExpired) as fault:
-        note(f"PERSOD: {fault}")
-        return {}
-    lines = ran.stderr.decode("ascii", "replace").splitlines()
-    found = [dict(PAIR.findall(line)) for line in lines if line.startswith("fault ")]
-    if not found or found[0].pop("code", "") != str(code):
-        return {}
-    found[0].pop("name", "")
-    return found[0]
 
 
 def fault_in(raw: bytes, code: int, number: int) -> dict[str, object]:

@@ -81,20 +81,17 @@ class Ran(NamedTuple):
 class Tool:
     """The tool with a state folder, for the server or proxy on a port."""
 
-    def __init__(self, folder: pathlib.Path, port: int, program: str = "") -> None:
-        self.folder, self.port, self.program = folder, port, program
+    def __init__(self, folder: pathlib.Path, port: int) -> None:
+        self.folder, self.port = folder, port
 
     def start(
         self, *words: object, patience: int = 60, by: tuple[str, ...] = ("-B",)
     ) -> subprocess.Popen:
         server = f"http://127.0.0.1:{self.port}"
         places = "--server", server, "--folder", self.folder, "--patience", patience
-        unset = "PERSOD", "PERSOD_LOG"
-        kept = {name: value for name, value in os.environ.items() if name not in unset}
         return subprocess.Popen(
             [sys.executable, *by, *map(str, [TOOL, *words, *places])],
             stdin=subprocess.DEVNULL, stdout=subprocess.PIPE, stderr=subprocess.PIPE, text=True,
-            env={**kept, **({"PERSOD": self.program} if self.program else {})},
         )
 
     def run(self, *words: object, **more: Any) -> Ran:
@@ -574,10 +571,9 @@ def of_pages() -> dict[int, str]:
 class Refusals:
     """Commands that are refused. `seen` has the codes whose sentence was printed."""
 
-    def __init__(self, hall: Hall, folder: pathlib.Path, program: str) -> None:
+    def __init__(self, hall: Hall, folder: pathlib.Path) -> None:
         self.hall, self.folder, self.table, self.seen = hall, folder, table(), set()
         self.tool = Tool(folder / "state", hall.port)
-        self.with_plan = Tool(folder / "state", hall.port, program)
 
     def through(self, fate: Callable[[bytes], str]) -> tuple[Gate, Tool]:
         gate = Gate(self.hall.port, fate)
@@ -610,14 +606,13 @@ class Refusals:
         self.refused(55, "batch", "B0", "P0", file)
 
     def of_files(self) -> None:
-        """Tries each fault without and with `persod plan`."""
+        """Tries each fault."""
         self.tool.done("product", "PC", "--check")
         file = self.folder / "fault.csv"
         for code, place, rows in FAULTS:
             lines = rows if isinstance(rows, bytes) else "\n".join([HEADER, *rows, ""]).encode()
             file.write_bytes(lines)
-            for tool in self.tool, self.with_plan:
-                self.refused(code, "batch", "B1", "PC", file, tool=tool, place=place)
+            self.refused(code, "batch", "B1", "PC", file, place=place)
 
     def of_numbers(self) -> None:
         """Another program uses the next number, or releases the number of a pending request."""
@@ -668,7 +663,7 @@ def refusals(given: argparse.Namespace, folder: pathlib.Path) -> str:
     server = Server(given.program, folder / "shop.db", free_port())
     hall = Hall(server.port)
     stock(hall, 3)
-    found = Refusals(hall, folder, given.program)
+    found = Refusals(hall, folder)
     names = {code: name for code, (name, _) in found.table.items() if code != 403}
     expect("the table", names, of_pages())
     for part in (found.of_objects, found.of_files, found.of_numbers, found.of_messages,
