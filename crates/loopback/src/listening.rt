@@ -44,7 +44,6 @@ const LISTENER: usize = 0;
 ///
 /// The main theorem (`serve_all` of `server`) also holds for these connections, but doesn't name
 /// the exchanges that took place. It only states that the store contains their effects.
-#[derive(Drop)]
 pub struct Loopback<'a, R: Net + Clock + AllocGlobal + Watches> {
     rt: &'a R,
     listener: R::Listener,
@@ -328,6 +327,24 @@ impl<'a, R: Net + Clock + AllocGlobal + Watches> Loopback<'a, R> {
             now = Instant::now(self.rt)?;
         }
         Ok(())
+    }
+}
+
+// With a derived `drop`, each crate that drops a `Loopback` would prove the drops of all its parts.
+impl<R: Net + Clock + AllocGlobal + Watches> Drop for Loopback<'_, R> {
+    fn drop(self) {
+        let Loopback {
+            rt: _,
+            listener: _,
+            port: _,
+            watch: _,
+            slots: _,
+            buf: _,
+            token: _,
+            swept: _,
+            wait: _,
+            turns: _,
+        } = self;
     }
 }
 
