@@ -1,7 +1,9 @@
 //! Runs of a database over two files in memory, and what a power failure leaves of them.
+ghost use Rattle.std.specs.Prelude.{IsTrue};
+
 use crate::mixing::Mixing;
-use sqlite::{Connection, Options};
-use sqlite_disk::{Files, Fuse};
+use sqlite::{Alter, Connection, Options};
+use sqlite_disk::{Disk, Files, Fuse};
 use std::alloc::{AllocError, Global};
 use std::test::Fail;
 use wal_damage::{Look, look_at};
@@ -87,6 +89,30 @@ impl Ended {
     }
 }
 
+// Inserts rows, each in a commit of its own. Returns `true` if the last commit succeeded.
+fn insert_rows<S: Alter>(conn: &mut Connection<S>) -> bool {
+    let mut is_done = conn.execute(TABLE, &[]).is_ok();
+    for _ in 0..5 {
+        is_done = conn.execute(ROW, &[]).is_ok();
+    }
+    is_done
+}
+
+// Opens a database over `files`, and inserts rows. Returns `true` if the last commit succeeded, and
+// the files.
+fn run<D: Disk + Drop>(alloc: Global, files: Files<D>) -> (bool, Files<D>)
+    requires log { IsTrue (D.Disk.is_usable files.log) }
+    requires db { IsTrue (D.Disk.is_usable files.db) }
+{
+    match Connection::open_files(alloc, files, OPTIONS) {
+        Ok(mut conn) => {
+            let is_done = insert_rows(&mut conn);
+            (is_done, conn.into_store().close())
+        }
+        Err((_, left)) => (false, left.into_files()),
+    }
+}
+
 /// Opens a database over the files `left`, and inserts rows, each in a commit of its own.
 pub(crate) fn run_over(alloc: Global, left: &Left, faults: Faults) -> Result<Ended, AllocError> {
     let log = Mixing::holding(alloc, &left.log, faults.log_writes)?;
@@ -95,18 +121,6 @@ pub(crate) fn run_over(alloc: Global, left: &Left, faults: Faults) -> Result<End
         log: Fuse::new(log, faults.log_calls),
         db: Fuse::new(db, faults.db_calls),
     };
-    match Connection::open_files(alloc, files, OPTIONS) {
-        Ok(mut conn) => {
-            let mut is_done = conn.execute(TABLE, &[]).is_ok();
-            for _ in 0..5 {
-                is_done = conn.execute(ROW, &[]).is_ok();
-            }
-            let files = conn.into_store().close();
-            Ok(Ended { is_done, files })
-        }
-        Err((_, left)) => Ok(Ended {
-            is_done: false,
-            files: left.into_files(),
-        }),
-    }
+    let (is_done, files) = run(alloc, files);
+    Ok(Ended { is_done, files })
 }
