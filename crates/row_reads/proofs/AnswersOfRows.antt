@@ -25,7 +25,7 @@ value_answered view value old end text params rows slice same shown result P mad
     rows_answered old end text params rows slice same shown result (λ rs x. view x ≡ value rs) (λ t x. P t (view x)) made (λ t image x is. subst (P t) (sym is) (law t image))
 
 -- the connection in a transaction of its own
-abbrev pub begun : {S : Type 0} → Held S → Held S
+abbrev begun : {S : Type 0} → Held S → Held S
 begun old = record old { in_transaction = true }
 
 module _ {S T : Type 0} (g : Ghosts S) (old new : Held S) where

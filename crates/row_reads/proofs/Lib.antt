@@ -8,7 +8,6 @@ pub mod Answering
 pub mod NameMeanings
 pub mod NameAnswers
 pub mod BatchAnswers
-pub mod LastLot
 pub mod LotAnswers
 pub mod CardMeanings
 pub mod CardAnswers

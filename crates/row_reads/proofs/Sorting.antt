@@ -31,7 +31,7 @@ use Rattle.sql_rows.specs.Decoding.{number_in}
 use Rattle.sql_rows.specs.Encoding.{number}
 use Rattle.sql_rows.specs.Image.{given_rows}
 use Rattle.row_reads.specs.Decoding.{IsFirst, first_number, id_in}
-use Rattle.row_reads.specs.Extremes.{AreSorted, IsGreatest, IsLeastBy}
+use Rattle.row_reads.specs.Extremes.{AreSorted, IsGreatest, IsGreatestBy, IsLeastBy}
 use Rattle.row_reads.proofs.Asking.{all_found, given_as, look, part, shown_row, whole}
 
 -- the query for the rows of one tree that satisfy `filters`, sorted by the first column in
@@ -167,7 +167,7 @@ module _ {X Y : Type 0} (key : X → Bool) (view : X → Row) (xs : List X) (all
       (first_of_one decode all found (subst (λ rs. IsFirst (map decode rs) found) is first))
 
 -- in descending order, no row has a higher number than the first row
-pub falls : (all : List Row) → All IsNumbered all → IsInOrder true all → (j : ℕ) → j < length all → number_in (column (get_or all j []) 0) ≤ number_in (column (get_or all 0 []) 0)
+falls : (all : List Row) → All IsNumbered all → IsInOrder true all → (j : ℕ) → j < length all → number_in (column (get_or all j []) 0) ≤ number_in (column (get_or all 0 []) 0)
 falls all numbers sorted zero low = omega arith
 falls all numbers sorted (suc j) low =
     let before = falls all numbers sorted j (omega arith) in
@@ -176,6 +176,34 @@ falls all numbers sorted (suc j) low =
     let step : number_in (column next 0) ≤ number_in (column r 0) =
     at_most (number_in (column r 0)) (number_in (column next 0)) (sym (below_as_numbers r next (numbers j [] (omega arith)) (numbers (j + 1) [] (omega arith))) ∙ sorted j [] (omega arith) (omega arith)) in
     rw (sym (add-one j)) (omega arith)
+
+-- if no element has a higher number than the first one
+highest_first : {Y : Type 0} (rank : Y → ℕ) (zs ys : List Y) → IsPermutation zs ys → ((k : ℕ) (d : Y) → k < length ys → rank (get_or ys k d) ≤ rank (get_or ys 0 d))
+    → (found : Option Y) → IsFirst ys found → IsGreatestBy rank zs found
+highest_first rank zs [] same down found none = subst (IsGreatestBy rank zs) (sym none) (nothing_found zs (IsPermutation-sym zs [] same))
+highest_first rank zs (y ∷ ys) same down found some =
+    let within : Contains zs y = All-permutation (Contains zs) zs (y ∷ ys) same (All-contains_itself zs) 0 y (omega arith) in
+    let highest : All (λ z. rank z ≤ rank y) zs = All-permutation (λ z. rank z ≤ rank y) (y ∷ ys) zs (IsPermutation-sym zs (y ∷ ys) same) (λ k d low. down k d low) in
+    subst (IsGreatestBy rank zs) (sym some) (within, highest)
+
+-- values from a result in descending order
+module _ {X Y : Type 0} (key : X → Bool) (view : X → Row) (xs : List X) (all : List Row) (got : IsPermutation (map view (filter key xs)) all) (sorted : IsInOrder true all)
+    (first_is : (x : X) → IsNumbered (view x)) (decode : Row → Y) (f : X → Y) (back : (x : X) → decode (view x) ≡ f x) (rank : Y → ℕ)
+    (rank_is : (r : Row) → rank (decode r) ≡ number_in (column r 0)) where
+  rank_at : (k : ℕ) (d : Y) → k < length all → rank (get_or (map decode all) k d) ≡ number_in (column (get_or all k []) 0)
+  rank_at k d within = ap rank (get_or-map decode all k [] d within) ∙ rank_is (get_or all k [])
+
+  down : (k : ℕ) (d : Y) → k < length (map decode all) → rank (get_or (map decode all) k d) ≤ rank (get_or (map decode all) 0 d)
+  down k d low =
+      let within : k < length all = omega (arith, length-map all decode) in
+      subst (λ n. n ≤ rank (get_or (map decode all) 0 d)) (sym (rank_at k d within))
+      (subst (λ n. number_in (column (get_or all k []) 0) ≤ n) (sym (rank_at 0 d (omega arith))) (falls all (numbered view first_is (filter key xs) all got) sorted k within))
+
+  -- the value of the first row
+  pub last_found : (rows : List Row) → rows ≡ take 1 all → (found : Option Y) → IsFirst (map decode rows) found → IsGreatestBy rank (map f (filter key xs)) found
+  last_found rows is found first =
+      highest_first rank (map f (filter key xs)) (map decode all) (all_found key view xs all got decode f back) down found
+      (first_of_one decode all found (subst (λ rs. IsFirst (map decode rs) found) is first))
 
 greatest_of : (zs ys : List ℕ) → IsPermutation zs ys → (n : ℕ) → IsFirst ys (Some n) → All (λ m. m ≤ n) ys → IsGreatest zs n
 greatest_of zs [] same n first most = absurd (none-some n (sym first))

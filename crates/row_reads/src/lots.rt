@@ -2,9 +2,9 @@
 ghost use Rattle.std.specs.Prelude.{◌≡◌, ◌<◌, ◌^◌, false, filter, find, length, map};
 ghost use Rattle.std.specs.Prelude.{option_map, IfOk, IfSome, IsPermutation};
 ghost use Rattle.sqlite.specs.Held.{state};
-ghost use Rattle.job_facts.specs.Sound.{AreLots};
-ghost use Rattle.job_facts.specs.States.{any_overlaps, lot_of};
+ghost use Rattle.job_facts.specs.States.{any_overlaps};
 ghost use Rattle.row_reads.specs.Decoding.{IsAny, lot_in, lot_row_in};
+ghost use Rattle.row_reads.specs.Extremes.{IsLastBegun};
 ghost use Rattle.row_reads.specs.Readable.{IsLotAnswer, IsLotRowAnswer};
 ghost use Rattle.row_reads.specs.Reads.{Looks, ReadsRows};
 ghost use Rattle.row_reads.specs.RowValues.{IsLotRow, lot_row_of};
@@ -13,14 +13,11 @@ ghost use Rattle.table_rows.specs.Tables.{PassesOnce, StoredLot};
 
 use crate::answered::{Answered, all_of, one_of};
 use crate::values::{count, long_at, name_at, number_at};
-use job_facts::{Lot, any_overlaps, lot_among};
+use job_facts::{Lot, any_overlaps};
 use sql_base::{int, rows_of};
 use sqlite::types::ValueRef;
 use sqlite::{Alter, Connection, Error, Row};
 use store_data::Name;
-
-// The highest serial of a blank.
-const MOST_SERIAL: u64 = 999_999_999_999_999_999;
 
 /// A lot with the number of its discarded blanks.
 #[derive(Clone, Copy)]
@@ -103,21 +100,18 @@ pub fn lots_of<S: Alter>(conn: &mut Connection<S>, product: &Name) -> Result<Vec
     all_of(conn, sql, &[ValueRef::Text(product.bytes())])
 }
 
-/// Returns the lot that contains the blank `blank`.
-///
-/// Lots share no serial, so only the last lot that starts at or before `blank` can contain it.
-/// SQLite finds this lot with the index on `low_serial`.
-pub fn lot_of<S: Alter>(conn: &mut Connection<S>, blank: u64) -> Result<Option<Lot>, Error>
-    requires { conn.old.in_transaction ≡ false }
+/// Returns the last lot that starts at or before `blank`. SQLite finds it with the index on
+/// `low_serial`.
+pub fn last_lot<S: Alter>(conn: &mut Connection<S>, blank: u64) -> Result<Option<Lot>, Error>
+    requires idle { conn.old.in_transaction ≡ false }
+    requires blank { blank < 2 ^ 63 }
     ensures found { ReadsRows (state S.Store conn.old) (state S.Store conn.new) result
-        (λ t found. AreLots t.products (map (λ (l : StoredLot). l.lot) t.lots)
-        → found ≡ lot_of (map (λ (l : StoredLot). l.lot) t.lots) blank) }
+        (λ t found. IsLastBegun blank (map (λ (l : StoredLot). l.lot) t.lots) found) }
     ensures looks { Looks (state S.Store conn.old) (state S.Store conn.new) }
 {
     let sql = "SELECT low_serial, amount, name, product FROM lot WHERE low_serial <= ?1 \
         ORDER BY low_serial DESC LIMIT 1";
-    let lots: Vec<Lot> = all_of(conn, sql, &[int(blank.min(MOST_SERIAL))])?;
-    Ok(lot_among(lots.as_slice(), blank).copied())
+    one_of(conn, sql, &[int(blank)])
 }
 
 /// Returns `true` if a lot contains one of the `count` serials that start with `first`.

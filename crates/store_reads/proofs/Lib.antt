@@ -11,6 +11,7 @@ pub mod SegmentRows
 pub mod Waiting
 pub mod RecordLines
 pub mod BlankSums
+pub mod LastLot
 pub mod Fixing
 pub mod KnownRows
 pub mod Counted

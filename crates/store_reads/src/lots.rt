@@ -6,9 +6,12 @@ ghost use Rattle.row_reads.specs.Reads.{Looks};
 ghost use Rattle.store_reads.specs.ReadsContents.{ReadsContents};
 
 use crate::numbers::END;
-use job_facts::Lot;
+use job_facts::{Lot, lot_among};
 use sqlite::{Alter, Connection, Error};
 use store_data::Name;
+
+// The highest serial of a blank.
+const MOST_SERIAL: u64 = 999_999_999_999_999_999;
 
 /// Returns the lot with the name `name`.
 pub fn lot<S: Alter>(conn: &mut Connection<S>, name: &Name) -> Result<Option<Lot>, Error>
@@ -22,7 +25,8 @@ pub fn lot<S: Alter>(conn: &mut Connection<S>, name: &Name) -> Result<Option<Lot
     Ok(found.map(|row| row.lot))
 }
 
-/// Returns the lot that contains the blank `blank`.
+/// Returns the lot that contains the blank `blank`. Lots share no serial, so only the last lot that
+/// starts at or before `blank` can contain it.
 pub fn lot_of<S: Alter>(conn: &mut Connection<S>, blank: u64) -> Result<Option<Lot>, Error>
     requires { conn.old.in_transaction ≡ false }
     ensures value { ReadsContents (state S.Store conn.old) (state S.Store conn.new) result
@@ -30,7 +34,8 @@ pub fn lot_of<S: Alter>(conn: &mut Connection<S>, blank: u64) -> Result<Option<L
     ensures looks { Looks (state S.Store conn.old) (state S.Store conn.new) }
 {
     row_laws::lots_by_name();
-    row_reads::lot_of(conn, blank)
+    let last = row_reads::last_lot(conn, blank.min(MOST_SERIAL))?;
+    Ok(lot_among(last.as_slice(), blank).copied())
 }
 
 /// Returns `true` if a lot contains one of the `count` serials that start with `first`.

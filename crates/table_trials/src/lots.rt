@@ -1,12 +1,13 @@
 //! Tests that the lot of a blank is found without reading all lots: each statement may visit only a
 //! few rows.
-use row_reads::{all_lots, lot_of};
+use row_reads::all_lots;
 use sql_tables::make_tables;
 use sqlite::types::ValueRef;
 use sqlite::{Alter, Connection};
 use std::alloc::Global;
 use std::process::Abort;
 use std::test::Fail;
+use store_reads::lot_of;
 
 // The number of lots, and of the blanks in each lot.
 const LOTS: u32 = 100;

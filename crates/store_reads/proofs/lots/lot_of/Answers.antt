@@ -1,14 +1,19 @@
-use Rattle.std.proofs.Common.{sym, subst, ap, ◌∙◌}
+use Rattle.std.proofs.Common.{ℕ, ◌≤◌, ◌<◌, ◌^◌, subst, ap, ◌∙◌, arith}
+use Rattle.std.proofs.lemmas.Bool.Decides.{nat_tests}
 use Rattle.sqlite.specs.Held.{state}
-use Rattle.job_facts.specs.Sound.{AreLots}
 use Rattle.job_facts.specs.States.{lot_of}
-use Rattle.store_reads.proofs.ReadContents.{reads}
+use Rattle.row_reads.specs.Extremes.{IsLastBegun}
+use Rattle.store_reads.proofs.LastLot.{last_contains, listed}
+use Rattle.store_reads.proofs.ReadContents.{shown}
 use Rattle.store_reads.proofs.lots.lot_of.Goals as goal
 
 pub returns-clause-value : goal.returns-clause-value
 returns-clause-value g c =
     let blank = c.args.blank in
-    reads (state g.S.Store c.args.conn.now) (state g.S.Store c.lot_of.new.conn) c.lot_of.result _ _ c.lot_of.ensures.found
-    (λ d sound x is.
-    let all = c.lots_by_name.ensures.all d.facts in
-    is (subst (AreLots d.facts.products) (sym all) sound.facts.named.lots) ∙ ap (λ lots. lot_of lots blank) all)
+    let low : c.min.result ≤ blank = grind (arith, nat_tests) in
+    let high : (m : ℕ) → m ≤ blank → m < 10 ^ 18 → m ≤ c.min.result = λ m least range. grind (arith, nat_tests) in
+    shown (state g.S.Store c.args.conn.now) (state g.S.Store c.last_lot.new.conn) _ _ c.in_ok-last.ensures.found
+    (λ d sound last.
+    c.copied.ensures ∙ c.lot_among.ensures ∙ ap (λ lots. lot_of lots blank) (listed c.in_ok-last.last c.as_slice.result.now c.as_slice.ensures)
+    ∙ last_contains d.facts.products d.facts.lots sound.facts.named.lots blank c.min.result low high c.in_ok-last.last
+    (subst (λ lots. IsLastBegun c.min.result lots c.in_ok-last.last) (c.lots_by_name.ensures.all d.facts) last))
