@@ -39,15 +39,16 @@ fn serve<'a, 'c>(port: &mut Loopback<'a, Hall<'c>>, reply: &str, turns: u64) -> 
 }
 
 // Serves the first peer, whose message has `size` bytes, with the response `start`. Then serves the
-// second peer, which connects after 4 s. Returns the number of bytes that were read from the first
-// peer after its message.
-fn drained(
+// second peer, which connects after 4 s. Checks that `read` bytes were read from the first peer
+// after its message.
+fn check_drained(
     rt: &impl Abort,
     alloc: Global,
     peers: &'static [Peer],
     size: usize,
     start: &str,
-) -> Result<usize, Fail> {
+    read: usize,
+) -> Result<(), Fail> {
     let crowd = Crowd::new(alloc, peers);
     let hall = Hall(&crowd);
     let mut port = Loopback::listen(&hall, 1)?;
@@ -58,7 +59,28 @@ fn drained(
     assert_eq!(rt; crowd.first_read.get(), size);
     serve(&mut port, start, 1)?;
     assert_eq!(rt; crowd.now(), 4000);
-    Ok(crowd.first_read.get().saturating_sub(size))
+    assert_eq!(rt; crowd.first_read.get().saturating_sub(size), read, "{start}");
+    Ok(())
+}
+
+// Serves `turns` peers, the last turns of the server. Checks when they end, and the number of bytes
+// that were read from the first peer.
+fn check_end(
+    rt: &impl Abort,
+    alloc: Global,
+    peers: &'static [Peer],
+    turns: u32,
+    millis: u64,
+    read: usize,
+) -> Result<(), Fail> {
+    let crowd = Crowd::new(alloc, peers);
+    let hall = Hall(&crowd);
+    let mut port = Loopback::listen(&hall, 1)?;
+    port.end_after(turns);
+    serve(&mut port, "HTTP/1.1 400 ", u64::from(turns))?;
+    assert_eq!(rt; crowd.now(), millis);
+    assert_eq!(rt; crowd.first_read.get(), read);
+    Ok(())
 }
 
 // A peer that sends the given pieces, and a second peer that connects at the given time.
@@ -104,11 +126,7 @@ fn what_follows_an_early_reply_is_dropped(rt: HostRuntime) -> Result<(), Fail> {
         ),
     ];
     for (peers, size, start, read) in ALL {
-        assert_eq!(rt;
-            drained(&rt, rt.alloc(), *peers, *size, *start)?,
-            *read,
-            "{start}"
-        );
+        check_drained(&rt, rt.alloc(), *peers, *size, *start, *read)?;
     }
     Ok(())
 }
@@ -141,11 +159,7 @@ fn nothing_is_read_after_a_complete_message(rt: HostRuntime) -> Result<(), Fail>
         ),
     ];
     for (peers, size, start) in ALL {
-        assert_eq!(rt;
-            drained(&rt, rt.alloc(), *peers, *size, *start)?,
-            0,
-            "{start}"
-        );
+        check_drained(&rt, rt.alloc(), *peers, *size, *start, 0)?;
     }
     Ok(())
 }
@@ -171,17 +185,12 @@ fn a_drain_ends_in_time(rt: HostRuntime) -> Result<(), Fail> {
         (1100, Piece::End),
     ];
     const ALL: &[(&[Peer], usize)] = &[
-        (before_another!(SLOW, 15_000), 30),
-        (before_another!(STOPS, 15_000), 10),
-        (before_another!(ENDS, 15_000), 10),
+        (before_another!(SLOW, 15_000), CHUNKED.len() + 30),
+        (before_another!(STOPS, 15_000), CHUNKED.len() + 10),
+        (before_another!(ENDS, 15_000), CHUNKED.len() + 10),
     ];
     for (peers, read) in ALL {
-        let crowd = Crowd::new(rt.alloc(), *peers);
-        let hall = Hall(&crowd);
-        let mut port = Loopback::listen(&hall, 1)?;
-        serve(&mut port, "HTTP/1.1 400 ", 2)?;
-        assert_eq!(rt; crowd.now(), 15_000);
-        assert_eq!(rt; crowd.first_read.get(), CHUNKED.len().saturating_add(*read));
+        check_end(&rt, rt.alloc(), *peers, 2, 15_000, *read)?;
     }
     Ok(())
 }
@@ -206,13 +215,7 @@ fn the_last_drains_get_a_second(rt: HostRuntime) -> Result<(), Fail> {
         (before_another!(STAYS, 60_000), CHUNKED.len() + 10, 1000),
     ];
     for (peers, read, millis) in ALL {
-        let crowd = Crowd::new(rt.alloc(), *peers);
-        let hall = Hall(&crowd);
-        let mut port = Loopback::listen(&hall, 1)?;
-        port.end_after(1);
-        serve(&mut port, "HTTP/1.1 400 ", 1)?;
-        assert_eq!(rt; crowd.now(), *millis);
-        assert_eq!(rt; crowd.first_read.get(), *read);
+        check_end(&rt, rt.alloc(), *peers, 1, *millis, *read)?;
     }
     Ok(())
 }

@@ -2,12 +2,16 @@
 use crate::crowd::{Crowd, Hall, Peer, Piece, Reports, crowd_of};
 use crate::fake::{local, millis};
 use http_messages::ByteSource;
-use loopback::Loopback;
+use loopback::{Loopback, PeerWriter};
 use server::{Connections, End, NextFault, Served};
+use std::alloc::Global;
 use std::io::{ErrorKind, Write};
+use std::process::Abort;
 use std::test::Fail;
 
 const GET: &[u8] = b"GET /1 HTTP/1.1\r\n\r\n";
+
+const SECOND: &[u8] = b"GET /2 HTTP/1.1\r\n\r\n";
 
 const ONE: &[(u64, Piece)] = &[(0, Piece::Text(GET))];
 
@@ -18,12 +22,27 @@ pub(crate) const SERVED: Served = Served {
     decided: false,
 };
 
-// Serves the next connection: reads its first bytes into `buf`, and returns their number.
-fn serve<'a, 'c>(port: &mut Loopback<'a, Hall<'c>>, buf: &mut [u8; 64]) -> Result<usize, Fail> {
-    let (mut message, reply) = port.next()?;
-    let count = message.bring(buf);
-    port.back(message, reply, SERVED);
-    Ok(count)
+// Serves connections, each for `takes` milliseconds. Checks when each of them is served, and its
+// bytes.
+fn check(rt: &impl Abort, crowd: &Crowd, takes: u64, wanted: &[(u64, &[u8])]) -> Result<(), Fail> {
+    let hall = Hall(crowd);
+    let mut port = Loopback::listen(&hall, 1)?;
+    for (at, bytes) in wanted {
+        let (mut message, reply) = port.next()?;
+        let mut buf = [0; 64];
+        let count = message.bring(&mut buf);
+        port.back(message, reply, SERVED);
+        assert_eq!(rt; buf.get(..count), Some(*bytes));
+        assert_eq!(rt; crowd.now(), *at);
+        crowd.pass(takes);
+    }
+    Ok(())
+}
+
+// Returns the writer of the response to the first peer.
+fn first_reply<'a, 'c>(hall: &'a Hall<'c>) -> Result<PeerWriter<'a, Hall<'c>>, Fail> {
+    let (_message, reply) = Loopback::listen(hall, 1)?.next()?;
+    Ok(reply)
 }
 
 // The server has no passwords, so other hosts must not be able to connect to it.
@@ -95,9 +114,9 @@ const ALL_KINDS: &[Peer] = crowd_of![
 // The latter is served when it is complete or too late. A silent peer uses no turn.
 #[test]
 fn complete_messages_come_before_slow_ones(rt: HostRuntime) -> Result<(), Fail> {
-    let wanted: [(u64, &[u8]); 6] = [
+    const WANTED: &[(u64, &[u8])] = &[
         (0, GET),
-        (500, b"GET /2 HTTP/1.1\r\n\r\n"),
+        (500, SECOND),
         (750, b"GET"),
         (1000, b""),
         (5000, b"PUT"),
@@ -106,14 +125,7 @@ fn complete_messages_come_before_slow_ones(rt: HostRuntime) -> Result<(), Fail> 
     for reports in [Reports::All, Reports::Nothing, Reports::Odd] {
         let crowd = Crowd::new(rt.alloc(), ALL_KINDS);
         crowd.reports.set(reports);
-        let hall = Hall(&crowd);
-        let mut port = Loopback::listen(&hall, 1)?;
-        for (at, bytes) in wanted {
-            let mut buf = [0; 64];
-            let count = serve(&mut port, &mut buf)?;
-            assert_eq!(rt; buf.get(..count), Some(bytes));
-            assert_eq!(rt; crowd.now(), at);
-        }
+        check(&rt, &crowd, 0, WANTED)?;
     }
     Ok(())
 }
@@ -127,17 +139,13 @@ fn complete_messages_come_as_they_were_accepted(rt: HostRuntime) -> Result<(), F
         (1, 0, &[(110, Piece::Text(b"GET /a HTTP/1.1\r\n\r\n"))]),
         (1, 130, ONE),
     ];
+    const WANTED: &[(u64, &[u8])] = &[
+        (250, b"GET /b HTTP/1.1\r\n\r\n"),
+        (250, b"GET /a HTTP/1.1\r\n\r\n"),
+        (250, GET),
+    ];
     let crowd = Crowd::new(rt.alloc(), PEERS);
-    let hall = Hall(&crowd);
-    let mut port = Loopback::listen(&hall, 1)?;
-    let wanted: [&[u8]; 3] = [b"GET /b", b"GET /a", b"GET /1"];
-    for begins in wanted {
-        let mut buf = [0; 64];
-        serve(&mut port, &mut buf)?;
-        assert_eq!(rt; buf.get(..6), Some(begins));
-        assert_eq!(rt; crowd.now(), 250);
-    }
-    Ok(())
+    check(&rt, &crowd, 0, WANTED)
 }
 
 // No message is late because another request took long. The bytes that arrived meanwhile are read
@@ -148,17 +156,12 @@ fn a_long_request_costs_no_peer_its_turn(rt: HostRuntime) -> Result<(), Fail> {
         (0, Piece::Text(b"GET /2 HT")),
         (4000, Piece::Text(b"TP/1.1\r\n\r\n")),
     ];
-    const PEERS: &[Peer] = crowd_of![(1, 0, LATER), (1, 0, ONE), (1, 7000, ONE),];
+    const PEERS: &[Peer] = crowd_of![(1, 0, LATER), (1, 0, ONE), (1, 7000, ONE)];
+    const WANTED: &[(u64, &[u8])] = &[(0, GET), (20_250, SECOND), (40_250, GET)];
     for reports in [Reports::All, Reports::Nothing] {
         let crowd = Crowd::new(rt.alloc(), PEERS);
         crowd.reports.set(reports);
-        let hall = Hall(&crowd);
-        let mut port = Loopback::listen(&hall, 1)?;
-        for size in [GET.len(), GET.len(), GET.len()] {
-            let mut buf = [0; 64];
-            assert_eq!(rt; serve(&mut port, &mut buf)?, size);
-            crowd.pass(20_000);
-        }
+        check(&rt, &crowd, 20_000, WANTED)?;
     }
     Ok(())
 }
@@ -173,12 +176,22 @@ fn a_late_connection_has_its_whole_time(rt: HostRuntime) -> Result<(), Fail> {
     const PEERS: &[Peer] = crowd_of![(1, 0, LATE)];
     let crowd = Crowd::new(rt.alloc(), PEERS);
     crowd.accept_takes.set(20_000);
-    let hall = Hall(&crowd);
-    let mut port = Loopback::listen(&hall, 1)?;
-    let mut buf = [0; 64];
-    assert_eq!(rt; serve(&mut port, &mut buf)?, GET.len());
-    assert_eq!(rt; crowd.now(), 25_000);
-    Ok(())
+    check(&rt, &crowd, 0, &[(25_000, SECOND)])
+}
+
+// Returns the bytes of the first message, which is read in pieces of at most `size` bytes.
+fn received(alloc: Global, hall: &Hall<'_>, size: usize) -> Result<Vec<u8>, Fail> {
+    let (mut message, _reply) = Loopback::listen(hall, 1)?.next()?;
+    let mut buf = vec![in alloc; 0; size]?;
+    let mut bytes = Vec::new(alloc);
+    for _ in 0..30_000 {
+        if buf.is_empty() {
+            return Err(Fail::new("no buffer"));
+        }
+        let count = message.bring(&mut buf);
+        bytes.extend_from_slice(buf.get(..count).unwrap_or(&[]))?;
+    }
+    Ok(bytes)
 }
 
 // A reader returns the received bytes, in pieces of any size.
@@ -195,22 +208,11 @@ fn bytes_come_as_they_were_sent(rt: HostRuntime) -> Result<(), Fail> {
     for size in [1, 7, 8192, 60_000] {
         let crowd = Crowd::new(rt.alloc(), PEERS);
         let hall = Hall(&crowd);
-        let mut port = Loopback::listen(&hall, 1)?;
-        let (mut message, _reply) = port.next()?;
-        let mut buf = vec![in rt.alloc(); 0; size]?;
-        let mut bytes = Vec::new(rt.alloc());
-        for _ in 0..30_000 {
-            if buf.is_empty() {
-                return Err(Fail::new("no buffer"));
-            }
-            let count = message.bring(&mut buf);
-            bytes.extend_from_slice(buf.get(..count).unwrap_or(&[]))?;
-        }
-        let bytes = bytes.as_slice();
+        let all = received(rt.alloc(), &hall, size)?;
+        let bytes = all.as_slice();
         assert_eq!(rt; crowd.now(), 1000);
         // Only the message is read. Its head has 42 bytes.
-        assert_eq!(rt; bytes.len(), 20_042);
-        assert_eq!(rt; crowd.first_read.get(), 20_042);
+        assert_eq!(rt; (bytes.len(), crowd.first_read.get()), (20_042, 20_042));
         assert!(rt; bytes.starts_with(b"POST / HTTP/1.1\r\n"));
         assert!(rt; bytes.ends_with(b"end"));
     }
@@ -222,7 +224,7 @@ fn bytes_come_as_they_were_sent(rt: HostRuntime) -> Result<(), Fail> {
 fn a_reply_has_its_time_once(rt: HostRuntime) -> Result<(), Fail> {
     let crowd = Crowd::new(rt.alloc(), ONE_PEER);
     let hall = Hall(&crowd);
-    let (_message, mut reply) = Loopback::listen(&hall, 1)?.next()?;
+    let mut reply = first_reply(&hall)?;
     crowd.pass(30_000);
     for (after, is_taken, wait) in [(0, true, 5000), (8000, true, 2000), (2000, false, 2000)] {
         crowd.pass(after);
@@ -239,7 +241,7 @@ fn a_signal_ends_no_reply(rt: HostRuntime) -> Result<(), Fail> {
     for (signals, millis, is_taken) in [(2, 4900, true), (4, 4000, false)] {
         let crowd = Crowd::new(rt.alloc(), ONE_PEER);
         let hall = Hall(&crowd);
-        let (_message, mut reply) = Loopback::listen(&hall, 1)?.next()?;
+        let mut reply = first_reply(&hall)?;
         crowd
             .write_faults
             .set((signals, millis, ErrorKind::Interrupted));

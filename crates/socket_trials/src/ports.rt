@@ -3,7 +3,9 @@
 use crate::fake::{Fake, Floor, Step, local, millis};
 use feeding::Exchange;
 use loopback::Port;
+use std::alloc::Global;
 use std::io::ErrorKind;
+use std::process::Abort;
 use std::test::Fail;
 use std::time::Duration;
 
@@ -11,17 +13,31 @@ const MESSAGE: &[u8] = b"POST /c/m1/1 HTTP/1.1\r\n\r\n";
 
 const REPLY: &[u8] = b"HTTP/1.1 200 OK\r\n\r\n{}";
 
+// Performs an exchange. Checks whether the whole response arrives or nothing, and the time limits
+// of the last write and the last read, in milliseconds.
+fn check(
+    rt: &impl Abort,
+    alloc: Global,
+    floor: &Floor,
+    is_whole: bool,
+    waits: (Option<u128>, Option<u128>),
+) -> Result<(), Fail> {
+    let fake = Fake(floor);
+    let came = Port::new(&fake, alloc, 8807).exchange(MESSAGE)?;
+    assert_eq!(rt; came.is_some(), is_whole);
+    let is_reply = came.is_some_and(|came| came.as_slice() == REPLY);
+    assert_eq!(rt; is_reply, is_whole);
+    assert_eq!(rt; (millis(floor.write_wait.get()), millis(floor.read_wait.get())), waits);
+    Ok(())
+}
+
 #[test]
 fn a_message_goes_whole_to_a_port_of_this_machine(rt: HostRuntime) -> Result<(), Fail> {
     let floor = Floor::new(rt.alloc(), REPLY, 0);
-    let fake = Fake(&floor);
-    let came = Port::new(&fake, rt.alloc(), 8807).exchange(MESSAGE)?;
-    assert_eq!(rt; came.ok_or("nothing")?.as_slice(), REPLY);
+    check(&rt, rt.alloc(), &floor, true, (Some(60_000), Some(60_000)))?;
     assert_eq!(rt; floor.take_written().as_slice(), MESSAGE);
     let minute = Duration::from_secs(60);
     assert_eq!(rt; floor.connected.get(), Some((local(8807), minute)));
-    assert_eq!(rt; floor.write_wait.get(), Some(minute));
-    assert_eq!(rt; floor.read_wait.get(), Some(minute));
     Ok(())
 }
 
@@ -30,12 +46,7 @@ fn a_message_goes_whole_to_a_port_of_this_machine(rt: HostRuntime) -> Result<(),
 fn the_minute_begins_before_the_connection(rt: HostRuntime) -> Result<(), Fail> {
     let floor = Floor::new(rt.alloc(), REPLY, 0);
     floor.connect_takes.set(2000);
-    let fake = Fake(&floor);
-    let came = Port::new(&fake, rt.alloc(), 8807).exchange(MESSAGE)?;
-    assert!(rt; came.is_some());
-    assert_eq!(rt; millis(floor.write_wait.get()), Some(58_000));
-    assert_eq!(rt; millis(floor.read_wait.get()), Some(58_000));
-    Ok(())
+    check(&rt, rt.alloc(), &floor, true, (Some(58_000), Some(58_000)))
 }
 
 // Each row has the results of the writes and the reads of an exchange, whether the whole response
@@ -72,13 +83,8 @@ fn an_exchange_has_a_minute(rt: HostRuntime) -> Result<(), Fail> {
         let floor = Floor::new(rt.alloc(), REPLY, 0);
         floor.writes.set(writes);
         floor.reads.set(reads);
-        let fake = Fake(&floor);
-        let came = Port::new(&fake, rt.alloc(), 8807).exchange(MESSAGE)?;
-        assert_eq!(rt; came.is_some(), is_whole);
-        let is_reply = came.is_some_and(|came| came.as_slice() == REPLY);
-        assert_eq!(rt; is_reply, is_whole);
-        assert_eq!(rt; millis(floor.write_wait.get()), Some(write_wait));
-        assert_eq!(rt; millis(floor.read_wait.get()), read_wait);
+        let waits = (Some(write_wait), read_wait);
+        check(&rt, rt.alloc(), &floor, is_whole, waits)?;
     }
     Ok(())
 }
