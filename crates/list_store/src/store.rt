@@ -11,7 +11,6 @@ use store_data::{Name, Product};
 
 /// A store in memory: the facts, the kept replies (oldest first) and the release marks. It has no
 /// device, so the only possible fault is `Memory`.
-#[derive(Drop)]
 pub struct ListStore {
     alloc: Global,
     facts: FactLists,
@@ -33,6 +32,18 @@ impl ListStore {
             kept: Vec::new(alloc),
             marks: Vec::new(alloc),
         }
+    }
+}
+
+// With a derived `drop`, each crate that drops a `ListStore` would prove the drops of its lists.
+impl Drop for ListStore {
+    fn drop(self) {
+        let ListStore {
+            alloc: _,
+            facts: _,
+            kept: _,
+            marks: _,
+        } = self;
     }
 }
 
