@@ -49,37 +49,31 @@ pub fn explain_fault(
     ensures two { batch_of product.now raw.now ≡ Err fault → IsSome (record_fault fault.kind)
         → IfOk result (λ explanation. IsSome explanation.other) }
 {
-    let rest = from_row(raw, fault.row);
-    let row = read_row(alloc, rest)?;
-    let two = two_rows(alloc, raw, product, fault.kind, row.field(0))?;
-    let blame = blame_of(alloc, fault.kind, &row, two)?;
-    let number = later_row(fault.row, two);
-    let start = start_of(alloc, raw, number)?;
+    let RowFault { kind, row: first } = fault;
+    let rest = from_row(raw, first);
+    let fields = read_row(alloc, rest)?;
+    let two = two_rows(alloc, raw, product, kind, fields.field(0))?;
+    let (row, other) = numbers_of(first, &two);
+    let blame = blame_of(alloc, kind, &fields, two)?;
+    let start = start_of(alloc, raw, row)?;
     Ok(Explanation {
-        kind: fault.kind,
-        row: number,
+        kind,
+        row,
         start,
-        other: earlier_row(two),
+        other,
         blame,
     })
 }
 
-// Returns the later one of the two rows of a fault of a record, and otherwise `row`.
-fn later_row(row: u32, two: Option<(NumberedRow, NumberedRow)>) -> u32
-    ensures { result ≡ later_row row two }
+// Returns the later and the earlier one of the two rows of a fault of a record. For any other fault,
+// returns its row `row`.
+fn numbers_of(row: u32, two: &Option<(NumberedRow, NumberedRow)>) -> (u32, Option<u32>)
+    ensures row { result.0 ≡ later_row row two.now }
+    ensures other { result.1 ≡ earlier_row two.now }
 {
     match two {
-        Some((_, later)) => later.0,
-        None => row,
-    }
-}
-
-fn earlier_row(two: Option<(NumberedRow, NumberedRow)>) -> Option<u32>
-    ensures { result ≡ earlier_row two }
-{
-    match two {
-        Some((earlier, _)) => Some(earlier.0),
-        None => None,
+        Some((earlier, later)) => (later.0, Some(earlier.0)),
+        None => (row, None),
     }
 }
 

@@ -23,11 +23,11 @@ returns-clause-value c =
     let raw = c.args.raw.now in
     let n = c.args.fault.row in
     let fields = row_fields n raw in
-    let is = row-read raw n c.from_row-rest.result.now c.in_ok-row.row c.from_row-rest.ensures.value c.in_ok-row.ensures in
-    parts raw c.args.fault c.later_row-number.result c.in_ok-start.start c.earlier_row.result c.in_ok-blame.blame fields c.in_ok-two.two (two_rows raw c.args.product.now c.args.fault.kind (field fields 0))
+    let is = row-read raw n c.from_row-rest.result.now c.in_ok-fields.fields c.from_row-rest.ensures.value c.in_ok-fields.ensures in
+    parts raw c.args.fault c.numbers_of-row.result.0 c.in_ok-start.start c.numbers_of-row.result.1 c.in_ok-blame.blame fields c.in_ok-two.two (two_rows raw c.args.product.now c.args.fault.kind (field fields 0))
     c.in_ok-start.ensures
-    c.later_row-number.ensures
-    c.earlier_row.ensures
+    c.numbers_of-row.ensures.row
+    c.numbers_of-row.ensures.other
     (c.in_ok-blame.ensures fields is)
     (c.in_ok-two.ensures ∙ ap (two_rows raw c.args.product.now c.args.fault.kind) (c.field.ensures fields is))
 
@@ -40,7 +40,7 @@ returns-clause-two c = λ refused some.
     let raw = c.args.raw.now in
     let n = c.args.fault.row in
     let fields = row_fields n raw in
-    let is = row-read raw n c.from_row-rest.result.now c.in_ok-row.row c.from_row-rest.ensures.value c.in_ok-row.ensures in
-    numbered c.in_ok-two.two (two_rows raw c.args.product.now c.args.fault.kind (field fields 0)) c.earlier_row.result c.earlier_row.ensures
+    let is = row-read raw n c.from_row-rest.result.now c.in_ok-fields.fields c.from_row-rest.ensures.value c.in_ok-fields.ensures in
+    numbered c.in_ok-two.two (two_rows raw c.args.product.now c.args.fault.kind (field fields 0)) c.numbers_of-row.result.1 c.numbers_of-row.ensures.other
     (c.in_ok-two.ensures ∙ ap (two_rows raw c.args.product.now c.args.fault.kind) (c.field.ensures fields is))
     (batch-pair c.args.product.now raw c.args.fault refused some)
