@@ -8,6 +8,7 @@ use job_facts::JobStore;
 use list_store::ListStore;
 use server::{Connections, End, NextFault, Served, serve_one};
 use std::alloc::Global;
+use std::process::Abort;
 use std::test::Fail;
 use wire::{AskFault, ByteSource, Reading, read_message};
 
@@ -65,22 +66,33 @@ fn served_in_part(alloc: Global, store: &mut ListStore, size: usize) -> (Served,
     (served, writer)
 }
 
+// Checks that nothing is written if a read fails after `size` bytes.
+fn check_broken(rt: &impl Abort, alloc: Global, store: &mut ListStore, size: usize) {
+    let (mut served, mut writer) = served_in_part(alloc, store, size);
+    if writer.taken() == UNAVAILABLE {
+        (served, writer) = served_in_part(alloc, store, size);
+    }
+    let (end, decided) = (End::Broken, false);
+    assert_eq!(rt; served, Served { end, decided }, "at {size}");
+    assert!(rt; writer.taken().is_empty(), "at {size}");
+}
+
+// Checks that neither the product nor a reply is stored.
+fn check_empty(rt: &impl Abort, store: &mut ListStore, size: usize) -> Result<(), Fail> {
+    let (office, code) = (name("office")?, name("P1")?);
+    assert!(rt; at_last!(store.product(&code))?.is_none(), "at {size}");
+    assert!(rt; at_last!(store.kept(&office, 1))?.is_none(), "at {size}");
+    Ok(())
+}
+
 // A later read would return the remaining bytes. Nothing is written, and neither the product nor a
 // reply is stored.
 #[test]
 fn a_message_with_a_failed_read_changes_nothing(rt: HostRuntime) -> Result<(), Fail> {
-    let (alloc, office, code) = (rt.alloc(), name("office")?, name("P1")?);
-    let mut store = ListStore::new(alloc);
+    let mut store = ListStore::new(rt.alloc());
     for size in 0..PRODUCT.len() {
-        let (mut served, mut writer) = served_in_part(alloc, &mut store, size);
-        if writer.taken() == UNAVAILABLE {
-            (served, writer) = served_in_part(alloc, &mut store, size);
-        }
-        let (end, decided) = (End::Broken, false);
-        assert_eq!(rt; served, Served { end, decided }, "at {size}");
-        assert!(rt; writer.taken().is_empty(), "at {size}");
-        assert!(rt; at_last!(store.product(&code))?.is_none(), "at {size}");
-        assert!(rt; at_last!(store.kept(&office, 1))?.is_none(), "at {size}");
+        check_broken(&rt, rt.alloc(), &mut store, size);
+        check_empty(&rt, &mut store, size)?;
     }
     Ok(())
 }

@@ -43,7 +43,9 @@ const BROKEN: &[u8] = b"GET /batch/B9 HTTP/1.1";
 
 // A product, its repeat, its request number for a different request, an invalid number, a batch
 // that doesn't exist, and an incomplete request line.
-const ALL_KINDS: [&[u8]; 6] = [PRODUCT, PRODUCT, REUSED, MALFORMED, NO_BATCH, BROKEN];
+const ALL_KINDS: &[&[u8]] = &[PRODUCT, PRODUCT, REUSED, MALFORMED, NO_BATCH, BROKEN];
+
+const NO_TEXTS: &[&[u8]] = &[];
 
 const NEW: Opened<'static> = Opened {
     path: b"shop.db",
@@ -61,6 +63,8 @@ const FOUND: Opened<'static> = Opened {
 
 const LISTENING: &[u8] = b"listening 127.0.0.1:8807\n";
 
+const ONE_SERVED: &[u8] = b"listening 127.0.0.1:8807\nserved 1\n";
+
 // The result of a server, with its lines and event lines.
 #[derive(Drop)]
 struct Ended {
@@ -77,20 +81,75 @@ impl Ended {
     }
 }
 
+// A server that a test runs.
+#[derive(Clone, Copy)]
+enum Run<'a> {
+    // Serves `turns` of the connections `texts` over empty lists.
+    Lists {
+        texts: &'a [&'a [u8]],
+        turns: u32,
+        level: Level,
+    },
+    // Serves no connection over the store of `stocked`.
+    Stocked,
+    // Serves the connections `texts` over a store whose device has the fault `fault` after `at`
+    // steps.
+    Planned {
+        fault: Fault,
+        at: u64,
+        opened: Opened<'a>,
+        texts: &'a [&'a [u8]],
+    },
+    // Serves the connections `texts`. The first `room` bytes of each response are accepted.
+    Unsent {
+        texts: &'a [&'a [u8]],
+        room: usize,
+    },
+    // Serves a `product` request. The writer of event lines has room for `room` bytes.
+    CutLines { room: usize },
+    // Serves a `product` request with a writer that can be flushed `flushes` times.
+    Flushed { flushes: u32 },
+}
+
+// Runs a server. The inner result is its end, unless an allocation fails.
+fn serve(alloc: Global, run: Run<'_>) -> Result<Result<Ended, AllocError>, Fail> {
+    Ok(match run {
+        Run::Lists {
+            texts,
+            turns,
+            level,
+        } => served_over(alloc, ListStore::new(alloc), NEW, texts, turns, level),
+        Run::Stocked => served_over(alloc, stocked(alloc)?, FOUND, NO_TEXTS, 0, Level::Usual),
+        Run::Planned {
+            fault,
+            at,
+            opened,
+            texts,
+        } => planned(alloc, fault, at, opened, texts),
+        Run::Unsent { texts, room } => cut_at(alloc, texts, room),
+        Run::CutLines { room } => cut_lines(alloc, room),
+        Run::Flushed { flushes } => flushed_lines(alloc, flushes),
+    })
+}
+
 // Runs a server and checks its result. If the result isn't the expected one, an allocation may have
 // failed, so the server runs once more.
-macro_rules! assert_ends {
-    ($rt:expr; $run:expr, $outcome:expr, $lines:expr, $events:expr) => {
-        let outcome: Result<(), ServeStop> = $outcome;
-        let (lines, events): (&[u8], &[u8]) = ($lines, $events);
-        let ended = match $run {
-            Ok(ended) if ended.is(outcome, lines, events) => ended,
-            _ => $run?,
-        };
-        assert_eq!($rt; ended.outcome, outcome);
-        assert_eq!($rt; ended.lines.as_slice(), lines);
-        assert_eq!($rt; ended.events.as_slice(), events);
+fn check(
+    rt: &impl Abort,
+    alloc: Global,
+    run: Run<'_>,
+    outcome: Result<(), ServeStop>,
+    lines: &[u8],
+    events: &[u8],
+) -> Result<(), Fail> {
+    let ended = match serve(alloc, run)? {
+        Ok(ended) if ended.is(outcome, lines, events) => ended,
+        _ => serve(alloc, run)??,
     };
+    assert_eq!(rt; ended.outcome, outcome);
+    assert_eq!(rt; ended.lines.as_slice(), lines);
+    assert_eq!(rt; ended.events.as_slice(), events);
+    Ok(())
 }
 
 // Serves `turns` of these connections over `store`.
@@ -120,11 +179,6 @@ fn served_over<S: ServerStore + Drop>(
         lines,
         events: events.writer,
     })
-}
-
-// Serves the six connections `ALL_KINDS` over lists.
-fn all_kinds(alloc: Global, level: Level) -> Result<Ended, AllocError> {
-    served_over(alloc, ListStore::new(alloc), NEW, &ALL_KINDS, 6, level)
 }
 
 // Serves these connections, at most six, over a store whose device has a planned fault.
@@ -160,9 +214,18 @@ broken bytes=22
 closed connections=6
 ";
     let lines = b"listening 127.0.0.1:8807\nserved 6\n";
-    assert_ends!(rt; all_kinds(rt.alloc(), Level::All), Ok(()), lines, all);
-    assert_ends!(rt; all_kinds(rt.alloc(), Level::Usual), Ok(()), lines, usual);
-    assert_ends!(rt; all_kinds(rt.alloc(), Level::Off), Ok(()), lines, b"");
+    for (level, events) in [
+        (Level::All, all.as_slice()),
+        (Level::Usual, usual.as_slice()),
+        (Level::Off, b"".as_slice()),
+    ] {
+        let run = Run::Lists {
+            texts: ALL_KINDS,
+            turns: 6,
+            level,
+        };
+        check(&rt, rt.alloc(), run, Ok(()), lines, events)?;
+    }
     Ok(())
 }
 
@@ -221,15 +284,17 @@ fn the_contents_of_an_existing_store_are_counted(rt: HostRuntime) -> Result<(), 
     let counted = b"opened db=\"my \\x22shop\\x22.db\" log=taken batches=1 sessions=0 replies=3
 closed connections=0
 ";
-    assert_ends!(rt;
-        served_over(rt.alloc(), stocked(rt.alloc())?, FOUND, &[], 0, Level::Usual),
-        Ok(()), lines, counted);
+    check(&rt, rt.alloc(), Run::Stocked, Ok(()), lines, counted)?;
     let unread = b"opened db=\"my \\x22shop\\x22.db\" log=taken batches=0 replies=0
 closed connections=0
 ";
-    let run = || planned(rt.alloc(), Fault::Full, 1, FOUND, &[]);
-    assert_ends!(rt; run(), Ok(()), lines, unread);
-    Ok(())
+    let run = Run::Planned {
+        fault: Fault::Full,
+        at: 1,
+        opened: FOUND,
+        texts: NO_TEXTS,
+    };
+    check(&rt, rt.alloc(), run, Ok(()), lines, unread)
 }
 
 // Each 503 has the fault of the store. `recovered` is written before the line of the first
@@ -245,9 +310,13 @@ closed connections=4
 ";
     let lines = b"listening 127.0.0.1:8807\nserved 4\n";
     let texts: [&[u8]; 4] = [PRODUCT, BROKEN, NO_BATCH, PRODUCT];
-    let run = || planned(rt.alloc(), Fault::Full, 0, NEW, &texts);
-    assert_ends!(rt; run(), Ok(()), lines, events);
-    Ok(())
+    let run = Run::Planned {
+        fault: Fault::Full,
+        at: 0,
+        opened: NEW,
+        texts: &texts,
+    };
+    check(&rt, rt.alloc(), run, Ok(()), lines, events)
 }
 
 // After a failure of the device the store is shut and can't be closed, so the last line isn't
@@ -263,15 +332,24 @@ unclosed fault=device
     let stop = Err(ServeStop::Store {
         fault: StoreFault::Device,
     });
-    let run = || planned(rt.alloc(), Fault::Failed, 0, NEW, &texts);
-    assert_ends!(rt; run(), stop, LISTENING, events);
+    let run = Run::Planned {
+        fault: Fault::Failed,
+        at: 0,
+        opened: NEW,
+        texts: &texts,
+    };
+    check(&rt, rt.alloc(), run, stop, LISTENING, events)?;
     let full = Err(ServeStop::Store {
         fault: StoreFault::Full,
     });
-    let run = || planned(rt.alloc(), Fault::Full, 0, NEW, &[]);
+    let run = Run::Planned {
+        fault: Fault::Full,
+        at: 0,
+        opened: NEW,
+        texts: NO_TEXTS,
+    };
     let events = b"made db=\"shop.db\"\nunclosed fault=full\n";
-    assert_ends!(rt; run(), full, LISTENING, events);
-    Ok(())
+    check(&rt, rt.alloc(), run, full, LISTENING, events)
 }
 
 #[test]
@@ -280,12 +358,14 @@ fn the_store_is_closed_if_no_connection_is_left(rt: HostRuntime) -> Result<(), F
 answered status=409 code=56 name=batch-unknown request=\"GET /batch/B9 HTTP/1.1\"
 closed connections=1
 ";
-    let run = || {
-        let store = ListStore::new(rt.alloc());
-        served_over(rt.alloc(), store, NEW, &[NO_BATCH], 2, Level::Usual)
+    let texts: [&[u8]; 1] = [NO_BATCH];
+    let run = Run::Lists {
+        texts: &texts,
+        turns: 2,
+        level: Level::Usual,
     };
-    assert_ends!(rt; run(), Err(ServeStop::Next), LISTENING, events);
-    Ok(())
+    let stop = Err(ServeStop::Next);
+    check(&rt, rt.alloc(), run, stop, LISTENING, events)
 }
 
 // Connections with these messages. The first `room` bytes of each response are accepted.
@@ -362,23 +442,22 @@ fn cut_at(alloc: Global, texts: &[&[u8]], room: usize) -> Result<Ended, AllocErr
     })
 }
 
-fn check_unsent(rt: &impl Abort, alloc: Global, room: usize) -> Result<(), Fail> {
+// If a response can't be written, its line has the status, no matter how much was written.
+#[test]
+fn a_response_that_is_not_accepted_is_unsent(rt: HostRuntime) -> Result<(), Fail> {
     let events = b"made db=\"shop.db\"
 unsent status=200 request=\"POST /c/office/1 HTTP/1.1\"
 unsent status=409 request=\"GET /batch/B9 HTTP/1.1\"
 closed connections=2
 ";
     let lines = b"listening 127.0.0.1:8807\nserved 2\n";
-    let run = || cut_at(alloc, &[PRODUCT, NO_BATCH], room);
-    assert_ends!(rt; run(), Ok(()), lines, events);
-    Ok(())
-}
-
-// If a response can't be written, its line has the status, no matter how much was written.
-#[test]
-fn a_response_that_is_not_accepted_is_unsent(rt: HostRuntime) -> Result<(), Fail> {
+    let texts: [&[u8]; 2] = [PRODUCT, NO_BATCH];
     for room in [0, 1, 11, 12, 100] {
-        check_unsent(&rt, rt.alloc(), room)?;
+        let run = Run::Unsent {
+            texts: &texts,
+            room,
+        };
+        check(&rt, rt.alloc(), run, Ok(()), lines, events)?;
     }
     Ok(())
 }
@@ -399,13 +478,6 @@ const A_PRODUCT: &[u8] = b"made db=\"shop.db\"
 answered status=200 request=\"POST /c/office/1 HTTP/1.1\"
 closed connections=1
 ";
-
-fn check_event_room(rt: &impl Abort, alloc: Global, room: usize) -> Result<(), Fail> {
-    let events = A_PRODUCT.get(..room).unwrap_or(A_PRODUCT);
-    let lines = b"listening 127.0.0.1:8807\nserved 1\n";
-    assert_ends!(rt; cut_lines(alloc, room), Ok(()), lines, events);
-    Ok(())
-}
 
 // A writer that can be flushed `flushes` times.
 #[derive(Drop)]
@@ -449,17 +521,23 @@ fn flushed_lines(alloc: Global, flushes: u32) -> Result<Ended, AllocError> {
 fn a_failed_flush_ends_the_server(rt: HostRuntime) -> Result<(), Fail> {
     let stop = Err(ServeStop::Write);
     let events = b"made db=\"shop.db\"\nclosed connections=0\n";
-    assert_ends!(rt; flushed_lines(rt.alloc(), 0), stop, LISTENING, events);
-    let lines = b"listening 127.0.0.1:8807\nserved 1\n";
-    assert_ends!(rt; flushed_lines(rt.alloc(), 1), stop, lines, A_PRODUCT);
-    assert_ends!(rt; flushed_lines(rt.alloc(), 2), Ok(()), lines, A_PRODUCT);
+    for (flushes, outcome, lines, events) in [
+        (0, stop, LISTENING, events.as_slice()),
+        (1, stop, ONE_SERVED, A_PRODUCT),
+        (2, Ok(()), ONE_SERVED, A_PRODUCT),
+    ] {
+        let run = Run::Flushed { flushes };
+        check(&rt, rt.alloc(), run, outcome, lines, events)?;
+    }
     Ok(())
 }
 
 #[test]
 fn failed_event_lines_do_not_end_the_server(rt: HostRuntime) -> Result<(), Fail> {
     for room in [0, 10, 60, 512] {
-        check_event_room(&rt, rt.alloc(), room)?;
+        let events = A_PRODUCT.get(..room).unwrap_or(A_PRODUCT);
+        let run = Run::CutLines { room };
+        check(&rt, rt.alloc(), run, Ok(()), ONE_SERVED, events)?;
     }
     Ok(())
 }

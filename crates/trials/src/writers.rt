@@ -26,20 +26,33 @@ fn drilled(alloc: Global) -> Result<Limited, DrillStop> {
     Ok(writer)
 }
 
-#[test]
-fn plans_reports_and_drills_are_written_byte_by_byte(rt: HostRuntime) -> Result<(), Fail> {
-    let alloc = rt.alloc();
+// Returns the plan of `FILE`.
+fn planned(alloc: Global) -> Result<Limited, Fail> {
     let product = product(255, 0, false)?;
     let mut writer = Limited::new(512, 1);
-    let end = at_last!(plan_engine(alloc, &product, &mut Cursor::new(FILE), &mut writer));
-    assert_eq!(rt; end, Ok(()));
-    assert_eq!(rt; writer.taken(), PRINTED.as_bytes());
+    at_last!(plan_engine(alloc, &product, &mut Cursor::new(FILE), &mut writer))?;
+    Ok(writer)
+}
+
+// Returns the report of the batch in a store that `stocked` returns.
+fn reported(alloc: Global) -> Result<Limited, Fail> {
     let mut store = stocked(alloc)?;
     let batch = name("B1")?;
     let mut writer = Limited::new(512, 1);
     at_last!(close_report(alloc, &mut store, &batch, &mut writer))?;
-    assert_eq!(rt; writer.taken(), REPORT.as_bytes());
-    let writer = at_last!(drilled(alloc))?;
-    assert_eq!(rt; writer.taken(), LINE.as_bytes());
+    Ok(writer)
+}
+
+#[test]
+fn plans_reports_and_drills_are_written_byte_by_byte(rt: HostRuntime) -> Result<(), Fail> {
+    let alloc = rt.alloc();
+    let drill = at_last!(drilled(alloc))?;
+    for (writer, text) in [
+        (planned(alloc)?, PRINTED),
+        (reported(alloc)?, REPORT),
+        (drill, LINE),
+    ] {
+        assert_eq!(rt; writer.taken(), text.as_bytes());
+    }
     Ok(())
 }
