@@ -6,12 +6,13 @@ ghost use Rattle.schema.specs.declared.store.SqlStore.{SqlStore as Store};
 ghost use Rattle.schema.specs.Closing.{LeavesWholeFile};
 ghost use Rattle.schema.specs.Stores.{connection, stands_for};
 ghost use Rattle.server.specs.Exchanges.{Exchange, Moves, ServesAll};
-ghost use Rattle.server.specs.ObservedRuns.{NotesRun};
-ghost use Rattle.server.specs.ServerLines.{WritesLines};
+ghost use Rattle.server_run.specs.ObservedRuns.{NotesRun};
+ghost use Rattle.server_run.specs.ServerLines.{WritesLines};
 
 use event_lines::EventLog;
 use schema::SqlStore;
-use server::{Connections, Opened, ServeStop, serve_and_report};
+use server::Connections;
+use server_run::{Opened, ServeStop, serve_and_report};
 use sqlite::FileStore;
 use sqlite_disk::Disk;
 use std::alloc::Global;

@@ -10,10 +10,10 @@ use Rattle.reports.specs.Answers.{MayReport, Reports, store_answer}
 use Rattle.reports.specs.Report.{report_text}
 use Rattle.reports.specs.declared.fault.AccountFault.{AccountFault}
 use Rattle.server.specs.Exchanges.{Exchange, ServesAll}
-use Rattle.server.specs.ObservedRuns.{NotesRun}
-use Rattle.server.specs.ServerLines.{WritesLines}
-use Rattle.server.specs.declared.opening.Opened.{Opened}
-use Rattle.server.specs.declared.stopping.ServeStop.{ServeStop}
+use Rattle.server_run.specs.ObservedRuns.{NotesRun}
+use Rattle.server_run.specs.ServerLines.{WritesLines}
+use Rattle.server_run.specs.declared.opening.Opened.{Opened}
+use Rattle.server_run.specs.declared.stopping.ServeStop.{ServeStop}
 use Rattle.store_files.specs.declared.file.Found.{Found}
 use Rattle.subcommands.specs.Ends.{end_of_account, end_of_serve_stop}
 use Rattle.subcommands.specs.Joins.{end_of_close}

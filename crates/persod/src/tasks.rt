@@ -8,7 +8,7 @@ use loopback::{Loopback, Port};
 use over_tables::serve_over_tables;
 use reports::close_report;
 use schema::SqlStore;
-use server::Opened;
+use server_run::Opened;
 use sqlite::FileStore;
 use sqlite_disk::Disk;
 use std::alloc::Global;

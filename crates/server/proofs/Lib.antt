@@ -3,9 +3,3 @@ pub mod Writing
 pub mod Serving
 pub mod Stays
 pub mod BeginningLemmas
-pub mod WordLemmas
-pub mod KeptLemmas
-pub mod ObservationLemmas
-pub mod ServerLinesLemmas
-pub mod OpeningLemmas
-pub mod RunLemmas

@@ -14,9 +14,18 @@ use Rattle.http_requests.specs.declared.ask.Asked.TheVariants as asked
 use Rattle.http_messages.specs.Messages.{HasHead}
 use Rattle.server.specs.declared.served.Served.{Served}
 use Rattle.http_requests.specs.Meant.{Meant, Broken, Refused, Asks, AsksNothing, Means}
+use Rattle.http_requests.specs.declared.meaning.Meaning.{Meaning}
+use Rattle.http_requests.specs.declared.meaning.Meaning.TheVariants as meaning
 use Rattle.server.specs.Replies.{IsAnswer, IsUnavailable}
 
 -- ---- one connection
+
+-- `meaning` is the meaning `m`, or out of memory
+abbrev pub IsMeaningOf : Meaning → Meant → Type 0
+IsMeaningOf (meaning.Asks a) m = m ≡ Asks a
+IsMeaningOf meaning.Broken m = m ≡ Broken
+IsMeaningOf (meaning.Refused why) m = m ≡ Refused why
+IsMeaningOf meaning.Memory m = ⊤
 
 -- a served connection: the bytes that it brought, their meaning, the bytes written to it, and its
 -- outcome

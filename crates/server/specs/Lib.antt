@@ -6,11 +6,3 @@ pub mod Answers
 pub mod Exchanges
 pub mod Serving
 pub mod Memory
-pub mod Words
-pub mod Bytes
-pub mod ImportLines
-pub mod Observations
-pub mod ConnectionLines
-pub mod ServerLines
-pub mod Openings
-pub mod ObservedRuns

@@ -11,8 +11,7 @@ ghost use Rattle.arrivals.specs.HttpReplies.{http_reply};
 ghost use Rattle.http_requests.specs.Asks.{IsInRange};
 ghost use Rattle.http_messages.specs.Messages.{Agrees};
 ghost use Rattle.http_requests.specs.declared.ask.Asked.TheVariants as asked;
-ghost use Rattle.server.specs.Exchanges.{Exchange, Serves};
-ghost use Rattle.server.specs.Observations.{IsMeaningOf};
+ghost use Rattle.server.specs.Exchanges.{Exchange, IsMeaningOf, Serves};
 ghost use Rattle.http_requests.specs.Meant.{Asks};
 ghost use Rattle.server.specs.Replies.{IsWritten, http_reply_text};
 ghost use Rattle.server.specs.Serving.{MayServe};
@@ -48,7 +47,7 @@ pub fn serve_one<S: JobStore, I: ByteSource, W: Write>(
 
 /// Serves one connection as `serve_one` does, with a router that many connections share. Also
 /// returns the meaning of its bytes, which a cause of a refusal depends on.
-pub(crate) fn serve_by<S: JobStore, I: ByteSource, W: Write>(
+pub fn serve_by<S: JobStore, I: ByteSource, W: Write>(
     routes: &mut Routes,
     alloc: Global,
     store: &mut S,

@@ -2,7 +2,8 @@
 use event_lines::{EventLog, Level};
 use http_messages::{ByteSource, Pieces};
 use list_store::ListStore;
-use server::{Connections, NextFault, Opened, Served, serve_and_report};
+use server::{Connections, NextFault, Served};
+use server_run::{Opened, serve_and_report};
 use std::alloc::Global;
 use std::test::Fail;
 

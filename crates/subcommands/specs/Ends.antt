@@ -9,8 +9,8 @@ use Rattle.job_facts.specs.declared.store.StoreFault.{StoreFault}
 use Rattle.job_facts.specs.declared.store.StoreFault.TheVariants as store
 use Rattle.reports.specs.declared.fault.AccountFault.{AccountFault}
 use Rattle.reports.specs.declared.fault.AccountFault.TheVariants as account
-use Rattle.server.specs.declared.stopping.ServeStop.{ServeStop}
-use Rattle.server.specs.declared.stopping.ServeStop.TheVariants as serve
+use Rattle.server_run.specs.declared.stopping.ServeStop.{ServeStop}
+use Rattle.server_run.specs.declared.stopping.ServeStop.TheVariants as serve
 use Rattle.over_tables.specs.declared.fault.FileFault.{FileFault}
 use Rattle.over_tables.specs.declared.fault.FileFault.TheVariants as file
 use Rattle.feeding.specs.declared.engine.FeedStop.{FeedStop}

@@ -12,7 +12,7 @@ use job_facts::{NUMBER_RELEASED, Refusal, StoreFault};
 use over_tables::{DAMAGED, FileFault, NOT_OURS};
 use plan_print::PlanStop;
 use reports::AccountFault;
-use server::ServeStop;
+use server_run::ServeStop;
 use std::error::Error;
 use std::fmt;
 

@@ -5,10 +5,8 @@ use event_lines::{EventLog, Level};
 use faulty_store::{Fault, FaultyStore, Plan};
 use job_facts::{ServerStore, StoreFault};
 use list_store::ListStore;
-use server::{
-    Connections, MemoryConnections, NextFault, Opened, ServeStop, Served, refusal_in,
-    serve_and_report,
-};
+use server::{Connections, MemoryConnections, NextFault, Served};
+use server_run::{Opened, ServeStop, refusal_in, serve_and_report};
 use std::alloc::{AllocError, Global};
 use std::io::{self, ErrorKind, Write};
 use std::process::Abort;

@@ -7,10 +7,10 @@ use Rattle.schema.specs.Stores.{stands_for}
 use Rattle.event_lines.specs.Notes.{NotesAll}
 use Rattle.event_lines.specs.declared.level.Level.{Level}
 use Rattle.server.specs.Exchanges.{Exchange, ServesAll}
-use Rattle.server.specs.ObservedRuns.{NotesRun}
-use Rattle.server.specs.ServerLines.{WritesLines}
-use Rattle.server.specs.declared.opening.Opened.{Opened}
-use Rattle.server.specs.declared.stopping.ServeStop.{ServeStop}
+use Rattle.server_run.specs.ObservedRuns.{NotesRun}
+use Rattle.server_run.specs.ServerLines.{WritesLines}
+use Rattle.server_run.specs.declared.opening.Opened.{Opened}
+use Rattle.server_run.specs.declared.stopping.ServeStop.{ServeStop}
 use Rattle.reply_store.proofs.Handling.{Stays-refl}
 use Rattle.store_files.specs.declared.file.Found.{Found}
 use Rattle.subcommands.specs.Joins.{end_of_close}

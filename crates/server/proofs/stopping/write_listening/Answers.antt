@@ -1,4 +1,0 @@
-use Rattle.server.proofs.stopping.write_listening.Goals as goal
-
-pub returns : goal.returns
-returns g c = c.write_number.ensures

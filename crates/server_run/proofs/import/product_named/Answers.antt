@@ -1,0 +1,11 @@
+use Rattle.std.proofs.Common.{◌≡◌, Option, Some, None, sym}
+use Rattle.std.specs.Prelude.{IfSome}
+use Rattle.store_data.specs.declared.row.Product.{Product}
+use Rattle.server_run.proofs.import.product_named.Goals as goal
+
+found : (p wanted : Option Product) → p ≡ wanted → IfSome p (λ q. wanted ≡ Some q)
+found None wanted is = tt
+found (Some q) wanted is = sym is
+
+pub returns-in-Ok-clause-product : goal.returns-in-Ok-clause-product
+returns-in-Ok-clause-product g c = λ honest contents held. found c.in-Ok.product _ (c.in-Ok.ensures.value honest contents held)

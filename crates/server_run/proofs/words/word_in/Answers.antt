@@ -1,0 +1,10 @@
+use Rattle.std.proofs.Common.{sym, subst, take}
+use Rattle.std.specs.Str.{IsUtf8}
+use Rattle.server_run.proofs.WordLemmas.{ok_unless, word-utf8}
+use Rattle.server_run.proofs.words.word_in.Goals as goal
+
+pub unwrap-requires : goal.unwrap-requires
+unwrap-requires c =
+    let text = c.args.text.now in
+    let utf8 : IsUtf8 (take c.word_len.result text) = subst (λ n. IsUtf8 (take n text)) (sym c.word_len.ensures.value) (word-utf8 text) in
+    ok_unless c.from_utf8.result _ _ (λ e wrong. wrong.0 utf8) c.from_utf8.ensures.cases
