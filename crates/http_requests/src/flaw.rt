@@ -1,12 +1,12 @@
 //! Finds the call in a JSON body, or the flaw of a body that isn't a call, for an event line.
 ghost use Rattle.std.specs.Prelude.{◌≡◌, IfOk, MatchResult, None, Some, bytes_eq, codes};
-ghost use Rattle.std.specs.Prelude.{option_and_then, option_map};
+ghost use Rattle.std.specs.Prelude.{option_and_then, option_copied, option_map};
 ghost use Rattle.std.specs.List.{find, list_any};
 ghost use Rattle.serde_json.specs.View.{view};
 ghost use Rattle.job_facts.specs.Requests.{IsCall};
 ghost use Rattle.http_messages.specs.Flaws.{name_of};
 ghost use Rattle.http_messages.specs.declared.flaw.Member.{Member as MemberValue};
-ghost use Rattle.http_requests.specs.Flaws.{all_members, body_flaw, flaw_by, has, is_additional};
+ghost use Rattle.http_requests.specs.Flaws.{body_flaw, flaw_by, has, is_additional};
 ghost use Rattle.http_requests.specs.Flaws.{is_valid, is_wrong, members_of, object_flaw};
 ghost use Rattle.http_requests.specs.Flaws.{wrong_flaw};
 ghost use Rattle.http_requests.specs.Members.{text_at};
@@ -87,7 +87,11 @@ fn object_flaw(value: &Value) -> Flaw
     ensures { result ≡ object_flaw (view value.now) }
 {
     match row_of(value) {
-        Some(row) => flaw_by(value, first_wrong(value, row), first_additional(value, row)),
+        Some(row) => {
+            let wrong = first_wrong(value, row).copied();
+            let additional = first_additional(value, row, ALL).copied();
+            flaw_by(value, wrong, additional)
+        }
         None => wrong_flaw(value, Member::Do),
     }
 }
@@ -146,16 +150,17 @@ fn wrong_flaw(value: &Value, member: Member) -> Flaw
     }
 }
 
-fn first_wrong(value: &Value, row: &[Member]) -> Option<Member>
-    ensures { result ≡ find (is_wrong (view value.now)) row.now }
+fn first_wrong<'a>(value: &Value, row: &'a [Member]) -> Option<&'a Member>
+    ensures { option_copied result ≡ find (is_wrong (view value.now)) row.now }
 {
-    row.iter().find(|member| is_wrong(value, **member)).copied()
+    row.iter().find(|member| is_wrong(value, **member))
 }
 
-fn first_additional(value: &Value, row: &[Member]) -> Option<Member>
-    ensures { result ≡ find (is_additional (view value.now) row.now) all_members }
+// Returns the first of `members` that `value` has and that isn't in `row`.
+fn first_additional<'a>(value: &Value, row: &[Member], members: &'a [Member]) -> Option<&'a Member>
+    ensures { option_copied result ≡ find (is_additional (view value.now) row.now) members.now }
 {
-    ALL.iter().find(|member| is_additional(value, row, **member)).copied()
+    members.iter().find(|member| is_additional(value, row, **member))
 }
 
 fn is_wrong(value: &Value, member: Member) -> bool
