@@ -29,7 +29,7 @@ SECTIONS = {
     "Rows": (20, 570, 290, 150, 2, "contents to rows of tables; audit"),
     "Auditors": (352, 628, 196, 92, 1, "lines and sheets from rows"),
     "Machine": (590, 280, 260, 92, 2, "feeder, feed, drill, and sockets"),
-    "Server": (590, 402, 260, 74, 1, "one connection, a list of connections"),
+    "Server": (590, 402, 260, 74, 2, "one connection, a list of connections"),
     "Messages": (590, 506, 260, 92, 2, "bytes to requests and back"),
     "Repeated requests": (590, 628, 260, 92, 2, "each request number has one effect"),
     "Other stores": (892, 280, 188, 92, 1, "lists; a faulty device"),
@@ -41,7 +41,7 @@ SECTIONS = {
 CONTRACTS = {
     "serve_over_tables": (0, 0, 2, "over_tables", "the main theorem with SqlStore; complete file at exit"),
     "serve_inputs": (2, 0, 1, "drill", "the same with ListStore"),
-    "serve_and_report": (0, 1, 2, "server", "the main theorem, the first and last line, event lines"),
+    "serve_and_report": (0, 1, 2, "server_run", "the main theorem, the first and last line, event lines"),
     "serve_all": (2, 1, 1, "server", "the main theorem"),
     "serve_one, serve_by": (0, 2, 3, "server", "one connection: reads a message, handles its request, writes the response"),
     "report_of, batch_counts": (0, 3, 1, "reports", "reports and accounts"),
