@@ -41,7 +41,8 @@ pub fn serve_one<S: JobStore, I: ByteSource, W: Write>(
         × Appends (W.contents writer.old) (W.contents writer.new) e.written
         × (e.served ≡ result) × Serves (S.state store.old) (S.state store.new) e }
 {
-    let (served, _meaning) = serve_by(&mut Routes::new(), alloc, store, incoming, writer);
+    let (served, meaning) = serve_by(&mut Routes::new(), alloc, store, incoming, writer);
+    drop(meaning);
     served
 }
 

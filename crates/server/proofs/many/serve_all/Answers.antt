@@ -13,13 +13,13 @@ loop-turn-preserved g c =
     let queue = g.C.Connections.queue in
     let so_far = c.loop-turn.invariant in
     let es = so_far.1 in
-    let one = c.serve_by-served.ensures in
+    let one = c.serve_by-meaning.ensures in
     let e = one.0 in
     let moves : Moves (queue c.args.connections.now) (queue c.next.new.self) es = subst (λ (q : Option Queue). Moves (queue c.args.connections.now) q es) (sym c.next.ensures.same) so_far.2 in (
       omega arith,
       es ++ e ∷ [],
       subst (λ (q : Option Queue). Moves (queue c.args.connections.now) q (es ++ e ∷ [])) (sym c.back.ensures)
-          (moves_more (queue c.args.connections.now) (queue c.next.new.self) es e _ _ _ c.serve_by-served.result.0 moves c.in_ok-incoming.ensures.opens one.1 one.2 one.3),
-      serves_more state c.left_in_turn.ensures c.args.store.now c.loop-turn.store c.serve_by-served.new.store es e so_far.3 one.4,
+          (moves_more (queue c.args.connections.now) (queue c.next.new.self) es e _ _ _ c.serve_by-meaning.result.0 moves c.in_ok-incoming.ensures.opens one.1 one.2 one.3),
+      serves_more state c.left_in_turn.ensures c.args.store.now c.loop-turn.store c.serve_by-meaning.new.store es e so_far.3 one.4,
       length_push es e ∙ ap (λ (n : ℕ). n + 1) so_far.4,
     )
