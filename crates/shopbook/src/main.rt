@@ -13,7 +13,7 @@ use std::io::IsTerminal;
 use std::process::ExitCode;
 use std::{env, fs, io};
 use store_files::has_suspect_wal;
-use subcommands::{End, end_of_words, exit_of, explain, note_refusal, note_suspect_wal};
+use subcommands::{End, end_of_words, exit_of, explain, note_refusal, note_suspect_wal, status_of};
 
 /// The size in bytes of a database file whose audit takes about two seconds.
 const LONG: u64 = 20_000_000;
@@ -26,11 +26,10 @@ fn main(rt: HostRuntime) -> ExitCode {
             end_of_words(&fault, written.is_ok())
         }
     };
-    let exit = exit_of(end);
-    if let Some(words) = exit.words {
+    if let Some(words) = exit_of(end).words {
         let _ = eprintln!(rt; "{words}");
     }
-    ExitCode::from(exit.status)
+    ExitCode::from(status_of(end))
 }
 
 // Parses the arguments of the process.

@@ -258,3 +258,10 @@ pub fn exit_of(end: End) -> Exit
     };
     Exit { status, words }
 }
+
+/// Returns the exit status of `end`. Allocates nothing.
+pub fn status_of(end: End) -> u8
+    ensures { result ≡ (exit_of end).status }
+{
+    exit_of(end).status
+}
