@@ -1,4 +1,5 @@
 pub mod Unopened
 pub mod Ending
 pub mod Files
+pub mod Places
 pub mod Wal

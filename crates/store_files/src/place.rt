@@ -5,6 +5,7 @@
 //! `exists` in `is_missing`.
 ghost use Rattle.std.specs.Prelude.{◌≡◌, ◌↔◌, codes, false, IfOk, IsErr, IsErrAnd, IsTrue, Ok};
 ghost use Rattle.std.specs.IoError.{error_kind};
+ghost use Rattle.store_files.specs.Places.{IsFolderOf, is_uri, names_no_file, place_refused};
 
 use std::alloc::{AllocError, AllocGlobal};
 use std::fs::{self, Files, Metadata, OpenOptions};
@@ -108,9 +109,16 @@ pub(crate) fn is_missing<R: Files>(files: &R, path: &str) -> Result<bool, AllocE
 // Returns `true` if SQLite doesn't take `path` for the path of a file: `:memory:` is a database in
 // memory, and `file:` begins a URI.
 pub(crate) fn names_no_file(path: &str) -> bool
-    ensures { path.now ≡ codes ":memory:" → IsTrue result }
+    ensures memory { path.now ≡ codes ":memory:" → IsTrue result }
+    ensures exact { result ≡ names_no_file path.now }
 {
-    path == ":memory:" || path.starts_with("file:")
+    path == ":memory:" || is_uri(path)
+}
+
+fn is_uri(path: &str) -> bool
+    ensures { result ≡ is_uri path.now }
+{
+    path.starts_with("file:")
 }
 
 // Returns the answer of the file system, or `AllocError` if it is out of memory.
@@ -210,17 +218,21 @@ fn place_missing<R: Files>(files: &R, path: &str) -> Result<Place, AllocError> {
 }
 
 // Returns the place for an error of the file system.
-fn place_refused(kind: ErrorKind) -> Place {
+fn place_refused(kind: ErrorKind) -> Place
+    ensures { result ≡ place_refused kind }
+{
     match kind {
         ErrorKind::PermissionDenied | ErrorKind::ReadOnlyFilesystem => Place::NoRight,
         _ => Place::Unclear,
     }
 }
 
-fn folder_of(path: &str) -> &str {
-    match path.rfind('/') {
-        None => ".",
-        Some(0) => "/",
-        Some(end) => &path[..end],
-    }
+// Returns the path of the folder with the object at `path`.
+fn folder_of(path: &str) -> &str
+    ensures { IsFolderOf path.now result.now }
+{
+    let Some(end) = path.rfind('/') else {
+        return ".";
+    };
+    if end == 0 { "/" } else { &path[..end] }
 }
