@@ -1,3 +1,4 @@
+mod Answering
 mod Fresh
 mod Handing
 mod Judging

@@ -70,10 +70,12 @@ empty = NotOurs (Tables Empty)
 abbrev pub IsOfPath : FileFault → Type 0
 IsOfPath fault = (fault ≡ NotOurs NoFile) ⊎ ((fault ≡ empty) ⊎ IsOfLook fault)
 
--- The fault is the fault for the error of SQLite and the place of the file. Or SQLite tried to
--- write to the database file, and the fault says that the file has no tables.
+-- If SQLite tried to write to the database file, the fault says that the file has no tables.
+-- Otherwise it is the fault for the error of SQLite and the place of the file.
 abbrev pub IsSaidOf : {D S : Type 0} {d : disk.Ghosts D} {s : start.Ghosts S} → Error → Files (Guarded D S d s) → FileFault → Type 0
-IsSaidOf error last fault = ((place : Result Place AllocError) × (fault ≡ of_opening error place)) ⊎ (WasToBeWritten last.db × (fault ≡ empty))
+IsSaidOf error last fault =
+    ((¬ WasToBeWritten last.db) × ((place : Result Place AllocError) × (fault ≡ of_opening error place)))
+    ⊎ (WasToBeWritten last.db × (fault ≡ empty))
 
 module _ {D S : Type 0} {d : disk.Ghosts D} {s : start.Ghosts S} (g : disk.Ghosts (Guarded D S d s)) (IsFresh : Bool → D → Type 0) where
   -- SQLite gets two files that were just opened, opens no database in them because of `error`, and

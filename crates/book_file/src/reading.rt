@@ -4,15 +4,33 @@ ghost use Rattle.sqlite.specs.Held.{state};
 ghost use Rattle.sqlite.specs.State.{HasCleanDisk, Survives};
 ghost use Rattle.sql_base.specs.Ends.{IsKept};
 ghost use Rattle.over_tables.specs.Refusals.{Explains};
-ghost use Rattle.book_file.specs.Found.{HasVerdict, IsFound};
+ghost use Rattle.book_file.specs.Found.{HasVerdict, IsFound, answer_of};
 
 use crate::book::Book;
 use crate::finding::{Finding, find};
 use adoption::fault_of;
 use file_causes::Damage;
 use over_tables::{Cause, FileFault};
-use sqlite::{Alter, Connection};
+use sqlite::{Alter, Connection, Error};
 use std::alloc::Global;
+
+// Returns the book, or the fault for what was found instead.
+fn answer_of(found: Result<Finding, Error>) -> Result<Book, FileFault>
+    ensures { result ≡ answer_of found }
+{
+    match found {
+        Ok(Finding::Read { book }) => Ok(book),
+        Ok(Finding::NotOurs { difference }) => {
+            let cause = Cause::Tables { difference };
+            Err(FileFault::NotOurs { cause })
+        }
+        Ok(Finding::Unreadable) => {
+            let cause = Damage::UnreadableRow;
+            Err(FileFault::Damaged { cause })
+        }
+        Err(error) => Err(FileFault::from(fault_of(error))),
+    }
+}
 
 /// Returns the rows of a database, sorted, with its schema version and the first audit rule that
 /// they break. All tables are read into memory completely. Nothing is written, and a crash leaves
@@ -36,16 +54,5 @@ pub fn read_book<S: Alter>(alloc: Global, conn: &mut Connection<S>) -> Result<Bo
     ensures idle { conn.new.in_transaction ≡ false }
     ensures survives { Survives (state S.Store conn.old) (state S.Store conn.new) (λ _. ⊥) }
 {
-    match find(alloc, conn) {
-        Ok(Finding::Read { book }) => Ok(book),
-        Ok(Finding::NotOurs { difference }) => {
-            let cause = Cause::Tables { difference };
-            Err(FileFault::NotOurs { cause })
-        }
-        Ok(Finding::Unreadable) => {
-            let cause = Damage::UnreadableRow;
-            Err(FileFault::Damaged { cause })
-        }
-        Err(error) => Err(FileFault::from(fault_of(error))),
-    }
+    answer_of(find(alloc, conn))
 }

@@ -1,4 +1,5 @@
-use Rattle.std.proofs.Common.{refl, inl, inr}
+use Rattle.std.proofs.Common.{refl, inl, inr, sym, ◌∙◌}
+use Rattle.std.proofs.lemmas.Bool.{false≢true}
 use Rattle.sqlite.specs.WalFiles.{image_at}
 use Rattle.over_tables.specs.declared.fault.FileFault.TheVariants.{Storage}
 use Rattle.book_file.specs.Left.{IsLog, unguarded}
@@ -29,4 +30,5 @@ pub returns-in-Err-default-Some-2-clause-refused : goal.returns-in-Err-default-S
 returns-in-Err-default-Some-2-clause-refused g c =
     let arm = c.in-Err-default-Some in
     unopened_in_files _ _ c.open_guarded.result c.open_guarded.ensures.failed c.with_files-in-Err-default-Some-2.result _ arm.files c.with_files-in-Err-default-Some-2.ensures.same
-    arm.field-0-0 arm.field-0-1 arm.is arm.field-0-1-is c.unopened.result refl (inl (c.place_of.result, c.unopened.ensures))
+    arm.field-0-0 arm.field-0-1 arm.is arm.field-0-1-is c.unopened.result refl
+    (inl ((λ was. false≢true (sym c.if-was_to_be_written.false ∙ c.was_to_be_written.ensures.1 was)), (c.place_of.result, c.unopened.ensures)))
