@@ -1,6 +1,6 @@
 -- The differences between the tables of a database and the tables of a schema version
 -- (docs/TABLES.md, "Accepted tables").
-use Rattle.std.specs.Prelude.{◌≡◌, ◌<◌, ◌∷◌, ◌&&◌, ◌||◌, ℕ, Bool, true, false, not, if◌then◌else◌, List, codes, length, slice_index_or}
+use Rattle.std.specs.Prelude.{◌≡◌, ◌≢◌, ◌<◌, ◌∷◌, ◌&&◌, ◌||◌, ℕ, Bool, true, false, not, if◌then◌else◌, List, [], codes, length, slice_index_or}
 use Rattle.std.specs.List.{AllWithin, list_any}
 use Rattle.sqlite_schema.specs.Names.{same_name}
 use Rattle.sqlite_schema.specs.declared.schema.Index.{Index}
@@ -44,14 +44,14 @@ pub record IsFirstWithout {X : Type 0} (P : X → Type 0) (xs : List X) (x : X) 
 abbrev pub HasOurs : Schema → Schema → Type 0
 HasOurs ours s = AreAmong ours.tables s.tables × AreAmong s.tables ours.tables
 
--- the difference for a table that the schema doesn't have, depending on whether something else has
--- its name
+-- the difference for a table that the schema, which isn't empty, doesn't have, depending on whether
+-- something else has its name
 abbrev pub Lacks : Schema → Table → Difference → Type 0
-Lacks s t (Missing name) = (name.items ≡ t.name) × (is_taken s t.name ≡ false)
-Lacks s t (Other name) = (name.items ≡ t.name) × (is_taken s t.name ≡ true)
+Lacks s t (Missing name) = (s ≢ no_schema) × (name.items ≡ t.name) × (is_taken s t.name ≡ false)
+Lacks s t (Other name) = (s ≢ no_schema) × (name.items ≡ t.name) × (is_taken s t.name ≡ true)
 Lacks s t _ = ⊥
 
--- the difference between a schema and `ours`; the first that applies is reported
+-- the difference between a schema and `ours`; the first that applies, in this order, is reported
 abbrev pub Differs : Schema → Schema → Difference → Type 0
 Differs ours s Empty = s ≡ no_schema
 Differs ours s (Missing name) = (t : Table) × IsFirstWithout (IsOneOf s.tables) ours.tables t × Lacks s t (Missing name)
@@ -59,5 +59,5 @@ Differs ours s (Other name) = (t : Table) × IsFirstWithout (IsOneOf s.tables) o
 Differs ours s (Foreign name) = (t : Table) × AreAmong ours.tables s.tables × IsFirstWithout (IsOneOf ours.tables) s.tables t × (name.items ≡ t.name)
 Differs ours s (FurtherKey name) = (i : Index) × HasOurs ours s × IsFirstWithout is_no_further_key s.indexes i × (name.items ≡ i.name)
 Differs ours s (View name) = (v : Stored) × ((more : List Stored) × HasOurs ours s × HasNoFurtherKey s.indexes × (s.views ≡ v ∷ more) × (name.items ≡ v.name))
-Differs ours s SharedPage = HasOurs ours s × ¬ AreApart s.tables
+Differs ours s SharedPage = HasOurs ours s × HasNoFurtherKey s.indexes × (s.views ≡ []) × ¬ AreApart s.tables
 Differs ours s OtherVersion = ⊥

@@ -1,5 +1,6 @@
 //! Finds the difference between the schema of a database and a schema version.
-ghost use Rattle.std.specs.Prelude.{◌≡◌, ◌↔◌, IfOk, IsTrue, MatchOption};
+ghost use Rattle.std.specs.Prelude.{◌≡◌, ◌≢◌, ◌↔◌, IfOk, IsTrue, MatchOption};
+ghost use Rattle.sql_base.specs.Columns.{no_schema};
 ghost use Rattle.sqlite_catalog.specs.Change.{is_reserved};
 ghost use Rattle.sql_tables.specs.Alike.{AreAmong, HasJust, HasNoFurtherKey, IsOneOf};
 ghost use Rattle.sql_tables.specs.Alike.{is_no_further_key};
@@ -113,8 +114,10 @@ fn copied(alloc: Global, name: &Bytes) -> Result<Vec<u8>, AllocError>
     Vec::from_slice(alloc, name.as_slice())
 }
 
-// Returns the difference for the table `table`, which the schema doesn't have.
+// Returns the difference for the table `table`, which the schema doesn't have. The schema isn't
+// empty.
 fn lacking(alloc: Global, schema: &Schema, table: &Table) -> Result<Difference, AllocError>
+    requires { schema.now ≢ no_schema }
     ensures { IfOk result (Lacks schema.now table.now) }
 {
     let name = copied(alloc, &table.name)?;
