@@ -1,10 +1,13 @@
 //! Opens the store over a database.
-ghost use Rattle.std.specs.Prelude.{◌≡◌, ◌↔◌, false, IfErr, IfOk, IsTrue};
+ghost use Rattle.std.specs.Prelude.{◌≡◌, ◌≢◌, ◌⊎◌, ◌↔◌, false, IfErr, IfOk, IsTrue, None};
 ghost use Rattle.sqlite.specs.Held.{state};
 ghost use Rattle.sqlite.specs.State.{HasCleanDisk};
+ghost use Rattle.sql_base.specs.Columns.{no_schema};
+ghost use Rattle.schema.specs.Left.{TakesAt};
+ghost use Rattle.schema.specs.Link.{Stands};
 ghost use Rattle.schema.specs.Stores.{connection, stands_for};
 ghost use Rattle.over_tables.specs.Opens.{Begins, IsOlder, IsOpened, older_number};
-ghost use Rattle.over_tables.specs.Refusals.{IsRefused};
+ghost use Rattle.over_tables.specs.Refusals.{IsDamaged, IsNotOurs, IsRefused};
 
 use crate::fault::FileFault;
 use crate::refusing::with_cause;
@@ -79,12 +82,19 @@ pub fn store_over<S: Alter>(
     requires { conn.in_transaction ≡ false }
     ensures taken { IfOk result (λ store. HasCleanDisk (state S.Store (connection store))
         → IsOpened wanted (state S.Store conn).now (stands_for S.Store store)) }
+    ensures takes { IfOk result (λ store. HasCleanDisk (state S.Store (connection store))
+        → TakesAt (state S.Store conn).now.trees (stands_for S.Store store)) }
     ensures clean { IfOk result (λ store. HasCleanDisk (state S.Store (connection store))
         → HasCleanDisk (state S.Store conn)) }
     ensures counts { IfOk result (λ store. ((stands_for S.Store store).failed ≡ 0)
         × ((stands_for S.Store store).full ≡ 0)) }
     ensures refused { IfErr result (λ e. IsRefused wanted (state S.Store conn)
         (state S.Store e.0) e.1) }
+    // No trees with sound contents are refused, except the trees of an empty database.
+    ensures refuses { IfErr result (λ e. HasCleanDisk (state S.Store e.0)
+        → IsTrue (state S.Store conn).is_open → (IsNotOurs e.1 ⊎ IsDamaged e.1)
+        → (state S.Store conn).now.schema ≢ no_schema
+        → Stands None (state S.Store conn).now.trees) }
     ensures idle { IfErr result (λ e. e.0.in_transaction ≡ false) }
 {
     let opened = if begins(&conn, wanted) {

@@ -1,10 +1,12 @@
-use Rattle.std.proofs.Common.{◌≡◌, sym, subst, ◌∙◌, arith}
+use Rattle.std.proofs.Common.{◌≡◌, inl, inr, sym, subst, ◌∙◌, arith}
 use Rattle.std.specs.Prelude.{IfErr, IfOk, MatchResult, Ok, Err, Result}
 use Rattle.std.proofs.lemmas.Bool.{false≢true}
 use Rattle.sqlite.specs.Held.{state}
+use Rattle.sqlite.specs.State.{HasCleanDisk}
+use Rattle.schema.specs.Left.{IsRefusal}
 use Rattle.schema.specs.Stores.{stands_for}
 use Rattle.over_tables.specs.Opens.{Begins}
-use Rattle.over_tables.proofs.Stores.{opened_new, opened_over, refused_new, refused_over}
+use Rattle.over_tables.proofs.Stores.{empty, opened_new, opened_over, refused_new, refused_over}
 use Rattle.over_tables.proofs.opening.store_over.Goals as goal
 use Rattle.over_tables.proofs.opening.store_over.Goals.{then-begins, else-begins}
 
@@ -67,3 +69,20 @@ returns-in-Ok-clause-clean g c clean = elim c.if-begins.branch [
   | then-begins w ↦ either_ok _ _ w.create-opened.result c.in-Ok.store (sym w.opened-is ∙ c.in-Ok.is) w.create-opened.ensures.clean clean
   | else-begins w ↦ omega (arith, (either_ok _ _ w.adopt-opened.result c.in-Ok.store (sym w.opened-is ∙ c.in-Ok.is) w.adopt-opened.ensures.survives).clean)
 ]
+
+pub returns-in-Ok-clause-takes : goal.returns-in-Ok-clause-takes
+returns-in-Ok-clause-takes g c clean = elim c.if-begins.branch [
+  | then-begins w ↦ at_ok _ w.create-opened.result c.in-Ok.store (sym w.opened-is ∙ c.in-Ok.is) w.create-opened.ensures.takes clean
+  | else-begins w ↦ at_ok _ w.adopt-opened.result c.in-Ok.store (sym w.opened-is ∙ c.in-Ok.is) w.adopt-opened.ensures.takes clean
+]
+
+pub returns-in-Err-clause-refuses : goal.returns-in-Err-clause-refuses
+returns-in-Err-clause-refuses g c clean live told some =
+    let old = state g.S.Store c.args.conn in
+    let looked = c.with_cause.ensures in
+    let early : HasCleanDisk (state g.S.Store c.in-Err.conn) = omega (arith, clean, looked.survives.clean) in
+    let refusal : IsRefusal c.in-Err.fault = elim told [ inl is ↦ subst IsRefusal (sym (looked.not_ours is)) tt | inr is ↦ subst IsRefusal (sym (looked.damaged is)) tt ] in
+    elim c.if-begins.branch [
+      | then-begins w ↦ absurd (some (empty c.args.wanted old.now (c.begins.ensures.0 w.if-begins.true)))
+      | else-begins w ↦ at_err _ w.adopt-opened.result _ (sym w.opened-is ∙ c.in-Err.is) w.adopt-opened.ensures.refuses early live refusal some
+    ]
