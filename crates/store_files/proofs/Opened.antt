@@ -1,11 +1,13 @@
 -- Lemmas: a database that SQLite opens, or fails to open, in two files whose WAL was examined
 -- before.
-use Rattle.std.proofs.Common.{◌≡◌, ap₂, cond, subst, ℕ, Bool, true, false, IsTrue, List, Option, Some, None}
+use Rattle.std.proofs.Common.{◌≡◌, ◌∙◌, ◌↔◌, ◌<◌, ap₂, cond, subst, ℕ, Bool, true, false, IsTrue, List, length, Option, Some, None}
+use Rattle.std.proofs.lemmas.Bool.{and_from, and_parts}
 use Rattle.sqlite.specs.Files.{Finds, file_state, image_of}
 use Rattle.sqlite.specs.Held.{Held}
 use Rattle.sqlite.specs.Recovery.{Image}
 use Rattle.sqlite.specs.Start.{FindsIn}
-use Rattle.sqlite.specs.WalReads.{AreClean, OnlyReads}
+use Rattle.sqlite.specs.State.{HasCleanDisk}
+use Rattle.sqlite.specs.WalReads.{AreClean, IsClean, OnlyReads}
 use Rattle.sqlite.specs.declared.FileStore.{FileStore}
 use Rattle.sqlite_disk.specs.Events.{Event, replay}
 use Rattle.sqlite_disk.specs.declared.Disk.{Ghosts}
@@ -13,9 +15,13 @@ use Rattle.sqlite_disk.specs.declared.Files.{Files}
 use Rattle.sqlite.specs.declared.file.Leftover.{Leftover}
 use Rattle.sqlite.specs.Opening.{is_open_error}
 use Rattle.sqlite.specs.declared.error.Error.{Error}
+use Rattle.job_facts.specs.Store.{State}
+use Rattle.wal_damage.specs.Damage.{lost_commits}
 use Rattle.over_tables.specs.declared.fault.FileFault.{FileFault}
-use Rattle.store_files.specs.Files.{IsDamaged}
-use Rattle.store_files.specs.Wal.{FailsInGiven, FailsToBegin, RefusesWal, opens_none}
+use Rattle.over_tables.specs.declared.opening.Wanted.{Wanted}
+use Rattle.store_files.specs.Files.{IsDamaged, MayHaveCommits, RunsOver}
+use Rattle.store_files.specs.declared.file.Found.{Found}
+use Rattle.store_files.specs.Wal.{FailsInGiven, FailsToBegin, IsWholeWal, RefusesWal, opens_none}
 
 abbrev pub image : List ℕ → List ℕ → Image
 image log db = record { log = log; db = db }
@@ -46,3 +52,43 @@ fails_in g IsFresh first given fresh read error (Some left) named none some = re
 pub damaged_in : {D : Type 0} (g : Ghosts D) (held : Image) (first given : Files D) → OnlyReads g first.log given.log → image_of g first ≡ held → (fault : FileFault) → RefusesWal (AreClean g given.log given.db) (g.seen first.db) (g.seen first.log) fault
     → IsDamaged g held fault
 damaged_in g held first given read same fault refused = (given, subst (λ (i : Image). RefusesWal (AreClean g given.log given.db) i.db i.log fault) same refused)
+
+-- A file that is read twice is only read.
+pub reads_on : {D : Type 0} (g : Ghosts D) (a b c : D) → OnlyReads g a b → OnlyReads g b c → OnlyReads g a c
+reads_on g a b c one two = record {
+  seen = two.seen ∙ one.seen;
+  clean = λ clean. one.clean (two.clean clean);
+  usable = two.usable;
+  key = two.key ∙ one.key;
+  rot = two.rot ∙ one.rot;
+  crash = λ bytes left. one.crash bytes (two.crash bytes left);
+}
+
+pub clean_log : {D : Type 0} (g : Ghosts D) (log db : D) → AreClean g log db → IsClean g log
+clean_log g log db clean = (and_parts _ _ clean).0
+
+-- If both files are clean after the WAL was read, they were clean before.
+pub clean_before : {D : Type 0} (g : Ghosts D) (log after db : D) → OnlyReads g log after → AreClean g after db → AreClean g log db
+clean_before g log after db read clean = and_from _ _ (read.clean (clean_log g after db clean)) (and_parts _ _ clean).1
+
+-- Files that were just opened show the bytes of the image that they had.
+pub whole_in : {D : Type 0} (g : Ghosts D) (held : Image) (first : Files D) → image_of g first ≡ held → lost_commits (g.seen first.db) (g.seen first.log) ≡ 0 → IsWholeWal held
+whole_in g held first same whole = subst (λ (i : Image). IsWholeWal i) same whole
+
+pub long_in : {D : Type 0} (g : Ghosts D) (held : Image) (first : Files D) → image_of g first ≡ held → (has_log : Bool) → IsTrue has_log ↔ (41 < length (g.seen first.log)) → IsTrue has_log ↔ MayHaveCommits held
+long_in g held first same has_log long = subst (λ (i : Image). IsTrue has_log ↔ MayHaveCommits i) same long
+
+-- A task that ran with one statement about the WAL ran with an equivalent statement.
+pub runs_with :
+    {D Done : Type 0} {g : Ghosts D} (conn : Held (FileStore D g)) (Was Is : Type 0) (wanted : Wanted) (Ran : Found → State → ((State → Type 0 → Type 0) → Type 0) → Done → Type 0) (done : Done)
+    → (HasCleanDisk (file_state conn) → Was ↔ Is) → RunsOver conn Was wanted Ran done → RunsOver conn Is wanted Ran done
+runs_with conn Was Is wanted Ran done same run = record {
+  found = run.found;
+  store = run.store;
+  is_new = run.is_new;
+  older = run.older;
+  has_log = λ clean. ((λ is. (same clean).0 ((run.has_log clean).0 is)), (λ is. (run.has_log clean).1 ((same clean).1 is)));
+  clean = run.clean;
+  opened = run.opened;
+  ran = run.ran;
+}

@@ -1,6 +1,6 @@
 -- The effect of `with_store` on the database file at a path: its task ran over the store, or the
 -- fault says why it didn't.
-use Rattle.std.specs.Prelude.{◌≡◌, ◌⊎◌, ◌↔◌, Bool, false, IsTrue, Option, Result}
+use Rattle.std.specs.Prelude.{◌≡◌, ◌⊎◌, ◌↔◌, ◌<◌, Bool, false, IsTrue, Option, Result, length}
 use Rattle.std.specs.declared.alloc.AllocError.{AllocError}
 use Rattle.sqlite.specs.FileStore.{view}
 use Rattle.sqlite.specs.Files.{IsBlankAs, IsOpened, file_state, over_files}
@@ -32,15 +32,21 @@ use Rattle.store_files.specs.declared.place.Place.{Place}
 abbrev pub IsAbsent : Wanted → FileFault → Type 0
 IsAbsent wanted fault = (wanted ≡ Ours) × ((place : Place) × (fault ≡ absent place))
 
+-- The WAL is longer than after an ordinary exit (41 bytes), so it may have commits.
+abbrev pub MayHaveCommits : Image → Type 0
+MayHaveCommits image = 41 < length image.log
+
 module _ {D : Type 0} {g : Ghosts D} where
   -- A task ran over the store that was opened from the connection `conn`, with the result `done`.
-  -- `Ran` is the relation of the task between the state in which the file was found, the state of
-  -- the store, the end, and the result.
-  pub record RunsOver {Done : Type 0} (conn : Held (FileStore D g)) (wanted : Wanted) (Ran : Found → State → ((State → Type 0 → Type 0) → Type 0) → Done → Type 0) (done : Done) : Type 0 where
+  -- `HasLog` says that the WAL was longer than after an ordinary exit. `Ran` is the relation of the
+  -- task between the state in which the file was found, the state of the store, the end, and the
+  -- result.
+  pub record RunsOver {Done : Type 0} (conn : Held (FileStore D g)) (HasLog : Type 0) (wanted : Wanted) (Ran : Found → State → ((State → Type 0 → Type 0) → Type 0) → Done → Type 0) (done : Done) : Type 0 where
     pub found : Found
     pub store : SqlStore (FileStore D g) over_files
     pub is_new : IsTrue found.is_new ↔ tables.Begins wanted (file_state conn).now
     pub older : tables.IsOlder (file_state conn).now found.older
+    pub has_log : HasCleanDisk (file_state conn) → IsTrue found.has_log ↔ HasLog
     pub clean : HasCleanDisk (file_state (connection store)) → HasCleanDisk (file_state conn)
     pub opened : HasCleanDisk (file_state (connection store)) → tables.IsOpened wanted (file_state conn).now (stands_for over_files store)
     pub ran : Ran found (stands_for over_files store) (AtEnd g) done

@@ -1,13 +1,14 @@
 //! Opens the store in a database file, and runs a task over it.
-ghost use Rattle.std.specs.Prelude.{◌≡◌, codes, false, IfErr, IfOk, IsErrAnd};
+ghost use Rattle.std.specs.Prelude.{◌≡◌, codes, false, IfErr, IfOk, IsErrAnd, IsTrue};
 ghost use Rattle.sqlite.specs.WalFiles.{image_at};
 ghost use Rattle.sqlite_std_file.specs.File.{IsFresh};
 ghost use Rattle.over_tables.specs.Refusals.{IsNotOurs};
-ghost use Rattle.store_files.specs.Files.{IsNotTaken, IsTurnedDown, OverFiles, RunsOver};
+ghost use Rattle.store_files.specs.Files.{IsNotTaken, IsTurnedDown, MayHaveCommits, OverFiles};
+ghost use Rattle.store_files.specs.Files.{RunsOver};
 
 use crate::faults::absent;
 use crate::new_file::create_private;
-use crate::place::{has_log, is_missing, place_of};
+use crate::place::{is_missing, place_of};
 use crate::wal::open_whole;
 use over_tables::{FileFault, Wanted, begins, older_version, store_over};
 use schema::SqlStore;
@@ -72,7 +73,7 @@ pub fn with_store<T: StoreTask + Drop, S: Start>(
     task: T,
 ) -> Result<T::Done, FileFault>
     ensures done { IfOk result (λ done. OverFiles ⟦<FileFrom<S> as Disk>⟧ (image_at S.Start)
-        (λ conn. RunsOver conn wanted (T.ran task) done)) }
+        (λ conn. RunsOver conn (MayHaveCommits (image_at S.Start)) wanted (T.ran task) done)) }
     ensures not_taken { IfErr result
         (IsNotTaken ⟦<FileFrom<S> as Disk>⟧ (image_at S.Start) IsFresh wanted) }
     ensures memory { path.now ≡ codes ":memory:" → IsErrAnd result IsNotOurs }
@@ -80,10 +81,9 @@ pub fn with_store<T: StoreTask + Drop, S: Start>(
     if wanted == Wanted::Ours && is_missing(rt, path)? {
         return Err(absent(place_of(rt, path)?));
     }
-    let has_log = has_log(rt, path)?;
     create_private(rt, path, wanted)?;
     match open_whole(rt, path, start) {
-        Ok(conn) => run_over(rt.alloc(), conn, has_log, wanted, task),
+        Ok((conn, has_log)) => run_over(rt.alloc(), conn, has_log, wanted, task),
         Err(fault) => Err(fault),
     }
 }
@@ -97,7 +97,7 @@ fn run_over<T: StoreTask + Drop, D: Disk + Drop>(
     task: T,
 ) -> Result<T::Done, FileFault>
     requires { conn.in_transaction ≡ false }
-    ensures done { IfOk result (RunsOver conn wanted (T.ran task)) }
+    ensures done { IfOk result (RunsOver conn (IsTrue has_log) wanted (T.ran task)) }
     ensures turned_down { IfErr result (IsTurnedDown conn wanted) }
 {
     let is_new = begins(&conn, wanted);

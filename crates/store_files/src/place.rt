@@ -17,7 +17,7 @@ use std::path::PathBuf;
 const HEAD: &[u8] = b"SQLite format 3\0";
 
 /// The length of the WAL after an ordinary exit. It has no commits, but a longer WAL may have some.
-const EMPTY_LOG: u64 = 41;
+pub(crate) const EMPTY_LOG: u64 = 41;
 
 /// The object at a path, as reported by the file system.
 #[derive(Clone, Copy, Debug, PartialEq, Eq)]

@@ -1,28 +1,28 @@
 //! Opens the two files of a database, unless their WAL is damaged.
-ghost use Rattle.std.specs.Prelude.{◌≡◌, codes, true, false, None};
+ghost use Rattle.std.specs.Prelude.{◌≡◌, ◌⊎◌, ◌↔◌, ◌<◌, codes, true, false, length, None};
 ghost use Rattle.std.specs.Prelude.{IfErr, IfOk, IsErrAnd, IsTrue, OnOk};
 ghost use Rattle.sqlite.specs.FileStore.{view};
 ghost use Rattle.sqlite.specs.Files.{Finds, IsBlankAs, IsOpened, file_state, image_of};
 ghost use Rattle.sqlite.specs.Start.{FindsIn};
 ghost use Rattle.sqlite.specs.State.{HasCleanDisk};
 ghost use Rattle.sqlite.specs.WalFiles.{image_at};
-ghost use Rattle.sqlite.specs.WalReads.{AreClean, OnlyReads};
+ghost use Rattle.sqlite.specs.WalReads.{AreClean, IsClean, OnlyReads};
 ghost use Rattle.sqlite.specs.Opening.{is_open_error};
 ghost use Rattle.sqlite_std_file.specs.File.{IsFresh, file_is_usable};
 ghost use Rattle.wal_damage.specs.Damage.{lost_commits};
 ghost use Rattle.over_tables.specs.Refusals.{IsNotOurs};
-ghost use Rattle.store_files.specs.Files.{IsNotBegun};
+ghost use Rattle.store_files.specs.Files.{IsNotBegun, MayHaveCommits};
 ghost use Rattle.store_files.specs.Wal.{FailsInGiven, IsOfLook, IsWholeWal, RefusesWal, opens_none};
 
 use crate::faults::unopened;
-use crate::place::{has_log, is_missing, names_no_file, place_of};
+use crate::place::{EMPTY_LOG, has_log, is_missing, names_no_file, place_of};
 use over_tables::{Cause, FileFault};
 use sqlite::{Connection, Error, ErrorCode, FileFrom, FileStore, Leftover, Options};
 use sqlite_disk::{Disk, Files, Start, Unknown};
 use sqlite_std_file::OpenError;
 use std::alloc::{AllocError, Global};
 use std::hash::{BuildHasher, RandomState};
-use std::io::ErrorKind;
+use std::io::{self, ErrorKind};
 use wal_damage::{Look, LookFault, look_at};
 
 const NO_MEMORY: Error = Error::SqliteFailure(ErrorCode::OutOfMemory);
@@ -109,22 +109,71 @@ fn is_suspect(rt: &HostRuntime, path: &str) -> bool {
     }
 }
 
+// Returns the fault for an error of reading the length of the WAL.
+fn unread(error: io::Error) -> FileFault
+    ensures { (result ≡ FileFault.Storage) ⊎ (result ≡ FileFault.Memory) }
+{
+    if error.kind() == ErrorKind::OutOfMemory {
+        FileFault::Memory
+    } else {
+        FileFault::Storage
+    }
+}
+
+// Returns `true` if the WAL is longer than after an ordinary exit.
+fn is_long<D: Disk>(log: &mut D) -> Result<bool, FileFault>
+    requires { IsTrue (D.Disk.is_usable log.old) }
+    ensures long { IfOk result (λ found. IsClean D.Disk log.new
+        → (IsTrue found ↔ (41 < length (D.Disk.seen log.old)))) }
+    ensures failed { IfErr result
+        (λ fault. (fault ≡ FileFault.Storage) ⊎ (fault ≡ FileFault.Memory)) }
+    ensures same { OnlyReads D.Disk log.old log.new }
+{
+    match log.len() {
+        Ok(len) => Ok(len as u64 > EMPTY_LOG),
+        Err(error) => Err(unread(error)),
+    }
+}
+
+// Checks two files with `refuse_damaged`. Returns `true` if their WAL is longer than after an
+// ordinary exit, so that it may have commits.
+fn examine<D: Disk>(alloc: Global, files: &mut Files<D>) -> Result<bool, FileFault>
+    requires log_usable { IsTrue (D.Disk.is_usable files.old.log) }
+    requires db_usable { IsTrue (D.Disk.is_usable files.old.db) }
+    ensures whole { IfOk result (λ _. AreClean D.Disk files.new.log files.new.db
+        → lost_commits (D.Disk.seen files.old.db) (D.Disk.seen files.old.log) ≡ 0) }
+    ensures long { IfOk result (λ has_log. AreClean D.Disk files.new.log files.new.db
+        → (IsTrue has_log ↔ (41 < length (D.Disk.seen files.old.log)))) }
+    ensures refused { IfErr result (RefusesWal (AreClean D.Disk files.new.log files.new.db)
+        (D.Disk.seen files.old.db) (D.Disk.seen files.old.log)) }
+    ensures log { OnlyReads D.Disk files.old.log files.new.log }
+    ensures db { OnlyReads D.Disk files.old.db files.new.db }
+{
+    match refuse_damaged(alloc, files) {
+        Ok(()) => is_long(&mut files.log),
+        Err(fault) => Err(fault),
+    }
+}
+
 // Opens the database in the file at `path`, unless its WAL is damaged. Both files are locked from
-// before the WAL is read until they are closed.
+// before the WAL is read until they are closed. The result also says whether the WAL was longer
+// than after an ordinary exit.
 pub(crate) fn open_whole<S: Start>(
     rt: &HostRuntime,
     path: &str,
     start: S,
-) -> Result<Connection<FileStore<FileFrom<S>>>, FileFault>
+) -> Result<(Connection<FileStore<FileFrom<S>>>, bool), FileFault>
     ensures memory { path.now ≡ codes ":memory:" → IsErrAnd result IsNotOurs }
-    ensures opened { IfOk result (λ conn. HasCleanDisk (file_state conn) → IsOpened conn) }
-    ensures found { IfOk result (λ conn. HasCleanDisk (file_state conn)
-        → FindsIn (image_at S.Start) (file_state conn)) }
-    ensures whole { IfOk result (λ conn. HasCleanDisk (file_state conn)
+    ensures opened { IfOk result (λ o. HasCleanDisk (file_state o.0) → IsOpened o.0) }
+    ensures found { IfOk result (λ o. HasCleanDisk (file_state o.0)
+        → FindsIn (image_at S.Start) (file_state o.0)) }
+    ensures whole { IfOk result (λ o. HasCleanDisk (file_state o.0)
         → IsWholeWal (image_at S.Start)) }
-    ensures sums { IfOk result (λ conn. HasCleanDisk (file_state conn)
-        → IsBlankAs false (image_at S.Start) → (view conn.store).has_sums ≡ false) }
-    ensures idle { IfOk result (λ conn. conn.in_transaction ≡ false) }
+    ensures log { IfOk result (λ o. HasCleanDisk (file_state o.0)
+        → (IsTrue o.1 ↔ MayHaveCommits (image_at S.Start))) }
+    ensures sums { IfOk result (λ o. HasCleanDisk (file_state o.0)
+        → IsBlankAs false (image_at S.Start) → (view o.0.store).has_sums ≡ false) }
+    ensures idle { IfOk result (λ o. o.0.in_transaction ≡ false) }
     ensures failed { IfErr result
         (IsNotBegun ⟦<FileFrom<S> as Disk>⟧ (image_at S.Start) IsFresh) }
 {
@@ -132,11 +181,12 @@ pub(crate) fn open_whole<S: Start>(
         Ok(files) => files,
         Err(error) => return Err(unopened(error, place_of(rt, path))),
     };
-    if let Err(fault) = refuse_damaged(rt.alloc(), &mut files) {
-        return Err(fault);
-    }
+    let has_log = match examine(rt.alloc(), &mut files) {
+        Ok(has_log) => has_log,
+        Err(fault) => return Err(fault),
+    };
     match open_in(rt, files) {
-        Ok(conn) => Ok(conn),
+        Ok(conn) => Ok((conn, has_log)),
         Err((error, left)) => {
             drop(left);
             Err(unopened(error, place_of(rt, path)))

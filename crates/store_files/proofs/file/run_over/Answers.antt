@@ -6,6 +6,7 @@ returns-in-Ok-clause-done g c = record {
   store = c.in-Ok.store;
   is_new = c.begins-is_new.ensures;
   older = c.older_version-older.ensures;
+  has_log = λ clean. ((λ is. is), (λ is. is));
   clean = c.in-Ok.ensures.clean;
   opened = c.in-Ok.ensures.taken;
   ran = c.perform.ensures;

@@ -9,6 +9,7 @@ use Rattle.over_tables.specs.declared.fault.FileFault.TheVariants.{Memory}
 use Rattle.over_tables.specs.declared.opening.Wanted.{Wanted}
 use Rattle.store_files.specs.Files.{IsNotTaken}
 use Rattle.store_files.specs.declared.place.Place.TheVariants.{Unclear}
+use Rattle.store_files.proofs.Opened.{runs_with}
 use Rattle.store_files.proofs.file.with_store.Goals as goal
 
 -- If an allocation fails before SQLite is called, no database is opened.
@@ -30,15 +31,13 @@ returns-in_err-is_missing-clause-not_taken g c = refused _ _ _ _ c.from_residual
 pub returns-in_err-place_of-clause-not_taken : goal.returns-in_err-place_of-clause-not_taken
 returns-in_err-place_of-clause-not_taken g c = refused _ _ _ _ c.from_residual-in_err-place_of.result c.from_residual-in_err-place_of.ensures.1
 
-pub returns-in_err-has_log-clause-not_taken : goal.returns-in_err-has_log-clause-not_taken
-returns-in_err-has_log-clause-not_taken g c = refused _ _ _ _ c.from_residual-in_err-has_log.result c.from_residual-in_err-has_log.ensures.1
-
 pub returns-in_err-create_private-clause-not_taken : goal.returns-in_err-create_private-clause-not_taken
 returns-in_err-create_private-clause-not_taken g c = refused _ _ _ _ c.from_residual-in_err-create_private.result c.from_residual-in_err-create_private.ensures.1
 
 pub returns-in-Ok-clause-done : goal.returns-in-Ok-clause-done
 returns-in-Ok-clause-done g c =
-    IfOk-weaker c.run_over.result _ _ (λ done ran. (c.in-Ok.conn, (λ clean. (c.in-Ok.ensures.opened clean, c.in-Ok.ensures.found clean, c.in-Ok.ensures.sums clean, c.in-Ok.ensures.whole clean)), ran)) c.run_over.ensures.done
+    IfOk-weaker c.run_over.result _ _ (λ done ran. (c.in-Ok.conn, (λ clean. (c.in-Ok.ensures.opened clean, c.in-Ok.ensures.found clean, c.in-Ok.ensures.sums clean, c.in-Ok.ensures.whole clean)), runs_with c.in-Ok.conn _ _ c.args.wanted _ done c.in-Ok.ensures.log ran))
+    c.run_over.ensures.done
 
 pub returns-in-Ok-clause-not_taken : goal.returns-in-Ok-clause-not_taken
 returns-in-Ok-clause-not_taken g c =
