@@ -1,5 +1,8 @@
 -- The subcommands of `shopbook`: their output, and the outcomes of their runs.
 use Rattle.std.specs.Prelude.{◌≡◌, ◌⊎◌, ℕ, Bool, true, false, List, [], Option, Some, None, Result, Ok, Err}
+use Rattle.sqlite.specs.Recovery.{Image}
+use Rattle.sqlite_disk.specs.declared.Disk.{Ghosts}
+use Rattle.sqlite_disk.specs.declared.Files.{Files}
 use Rattle.text_io.specs.Written.{Writes}
 use Rattle.text_io.specs.declared.writing.WriteFailed.{WriteFailed}
 use Rattle.job_facts.specs.declared.refusal.Refusal.{Refusal}
@@ -19,7 +22,8 @@ use Rattle.book_sheet.specs.Sheet.{sheet_of}
 use Rattle.book_arguments.specs.declared.words.Ask.{Ask}
 use Rattle.book_arguments.specs.declared.words.Ask.TheVariants.{Check, Lists, Cards, Blanks, Machines, Sheet}
 use Rattle.book_arguments.specs.declared.words.BookWords.{BookWords}
-use Rattle.book_file.specs.Found.{HasVerdict}
+use Rattle.book_file.specs.Files.{InFiles}
+use Rattle.book_file.specs.Found.{HasVerdict, IsFound}
 use Rattle.book_file.specs.declared.book.Book.{Book}
 use Rattle.book_answers.specs.declared.answer.Answer.{Answer}
 use Rattle.book_answers.specs.declared.from_file.Printed.{Printed}
@@ -97,8 +101,13 @@ Prints w book before after end =
     ((end ≡ Memory) × (after ≡ before))
     ⊎ ((written : Result (Unit {0}) WriteFailed) × Writes before after (text_of w book) written × (end ≡ end_written (end_of w book) written))
 
--- the reply of some book with its verdict is printed, and `printed` names the rule that the book
--- breaks
-abbrev pub PrintsFile : BookWords → Option (List ℕ) → Option (List ℕ) → Printed → Type 0
-PrintsFile w before after printed =
-    (book : Book) × HasVerdict book.tables book.failing × (printed.failing ≡ book.failing) × Prints w book before after printed.end
+-- The reply of a book with its verdict is printed, and `printed` names the rule that the book
+-- breaks. If the two files have returned what was written, the book has the rows of the database
+-- that they held when they were opened.
+pub record PrintsFile {D : Type 0} (g : Ghosts D) (image : Image) (w : BookWords) (before after : Option (List ℕ)) (printed : Printed) : Type 0 where
+  pub book : Book
+  pub files : Files D
+  pub found : InFiles g image (λ db. IsFound db book) files
+  pub verdict : HasVerdict book.tables book.failing
+  pub failing : printed.failing ≡ book.failing
+  pub prints : Prints w book before after printed.end

@@ -1,5 +1,6 @@
 //! Reads a database file and prints the reply to a subcommand of `shopbook`.
 ghost use Rattle.std.specs.Prelude.{◌≡◌, IfErr, IfOk, IfSome, IsTrue, length};
+ghost use Rattle.sqlite.specs.WalFiles.{image_at};
 ghost use Rattle.book_answers.specs.Answers.{PrintsFile};
 
 use crate::printing::print_answer;
@@ -7,7 +8,8 @@ use audit_rows::Rule;
 use book_arguments::BookWords;
 use book_file::book_in;
 use over_tables::FileFault;
-use sqlite_disk::{Disk, Files, Unknown};
+use sqlite::FileFrom;
+use sqlite_disk::{Disk, Files, Start};
 use std::io::Write;
 use subcommands::End;
 
@@ -21,22 +23,24 @@ pub struct Printed {
 }
 
 /// Reads and audits the database file that `words` names, and prints the reply to its subcommand to
-/// `writer`. The file is closed before anything is printed.
+/// `writer`. The file is closed before anything is printed. `start` represents the contents of the
+/// two files before the call. The contract holds for any such contents.
 ///
 /// # Errors
 ///
 /// Returns why the file isn't read. Nothing is printed then.
-pub fn print_from_file<W: Write>(
+pub fn print_from_file<S: Start, W: Write>(
     rt: &HostRuntime,
     words: &BookWords,
+    start: S,
     writer: &mut W,
 ) -> Result<Printed, FileFault>
-    ensures printed { IfOk result
-        (PrintsFile words.now (W.contents writer.old) (W.contents writer.new)) }
+    ensures printed { IfOk result (PrintsFile ⟦<FileFrom<S> as Disk>⟧ (image_at S.Start) words.now
+        (W.contents writer.old) (W.contents writer.new)) }
     ensures refused { IfErr result (λ _. W.contents writer.new ≡ W.contents writer.old) }
 {
     // Dropped here, so that the types of a store are dropped in no program.
-    let (read, files) = book_in(rt, words.db.as_str(), Unknown);
+    let (read, files) = book_in(rt, words.db.as_str(), start);
     let size = size_in(files);
     let mut book = read?;
     book.size = size;

@@ -9,6 +9,7 @@ use book_arguments::{Ask, BookWords, read_book_words};
 use event_lines::{EventLog, Level};
 use file_causes::Damage;
 use over_tables::FileFault;
+use sqlite_disk::Unknown;
 use std::io::IsTerminal;
 use std::process::ExitCode;
 use std::{env, fs, io};
@@ -42,7 +43,7 @@ fn asked(rt: &HostRuntime) -> Result<BookWords, WordsFault> {
 fn obey(rt: &HostRuntime, words: &BookWords) -> End {
     note_wait(rt, words.db.as_str());
     note_suspect(rt, words);
-    match print_from_file(rt, words, &mut io::writer(rt)) {
+    match print_from_file(rt, words, Unknown, &mut io::writer(rt)) {
         Ok(printed) => {
             if let Some(rule) = printed.failing {
                 let cause = Damage::Broken { rule };
