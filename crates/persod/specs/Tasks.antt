@@ -1,8 +1,15 @@
 -- The results of the tasks over the store in a database file (this project's profile). The bytes of
 -- the process's own streams are unknown.
-use Rattle.std.specs.Prelude.{◌≡◌, ◌⊎◌, List, [], ◌∷◌, false, length, None, OnOk, Result, Ok, Err, ⊤}
+use Rattle.std.specs.Prelude.{◌≡◌, ◌⊎◌, ℕ, Bool, List, [], ◌∷◌, false, length, None, OnOk, Result, Ok, Err, ⊤, string_bytes}
 use Rattle.std.specs.declared.io.ErrorKind.{ErrorKind}
+use Rattle.sqlite.specs.Recovery.{Image}
+use Rattle.sqlite_disk.specs.declared.Disk.{Ghosts}
+use Rattle.arguments.specs.Words.{InRange}
+use Rattle.arguments.specs.declared.words.Words.{Words}
+use Rattle.arguments.specs.declared.words.Words.TheVariants as words
+use Rattle.arguments.specs.declared.words.WordsFault.{WordsFault}
 use Rattle.event_lines.specs.Notes.{NotesAll}
+use Rattle.event_lines.specs.declared.level.Level.{Level}
 use Rattle.job_facts.specs.declared.refusal.Refusal.TheVariants.{BatchUnknown}
 use Rattle.job_facts.specs.declared.store.StoreFault.{StoreFault}
 use Rattle.job_facts.specs.Store.{CountsFaults, State, Stays}
@@ -14,9 +21,14 @@ use Rattle.server_run.specs.ObservedRuns.{NotesRun}
 use Rattle.server_run.specs.ServerLines.{WritesLines}
 use Rattle.server_run.specs.declared.opening.Opened.{Opened}
 use Rattle.server_run.specs.declared.stopping.ServeStop.{ServeStop}
+use Rattle.over_tables.specs.declared.fault.FileFault.{FileFault}
+use Rattle.over_tables.specs.declared.opening.Wanted.{Wanted}
+use Rattle.over_tables.specs.declared.opening.Wanted.TheVariants.{Any, Ours}
+use Rattle.store_files.specs.Files.{IsNotTaken, MayHaveCommits, OverFiles, RunsOver}
 use Rattle.store_files.specs.declared.file.Found.{Found}
-use Rattle.subcommands.specs.Ends.{end_of_account, end_of_serve_stop}
+use Rattle.subcommands.specs.Ends.{end_of_account, end_of_file, end_of_serve_stop, end_of_words, exit_of}
 use Rattle.subcommands.specs.Joins.{end_of_close}
+use Rattle.subcommands.specs.Runs.{DrillRuns, Feeds, Plans, product_of}
 use Rattle.subcommands.specs.Unstarted.{end_of_port, unstarted_line}
 use Rattle.subcommands.specs.declared.end.End.{End}
 use Rattle.subcommands.specs.declared.end.End.TheVariants.{Done}
@@ -77,3 +89,39 @@ pub record ReportsFile (task : ReportTask) (old last : State) (whole : Type 0) (
 
 abbrev pub ReportsBatch : ReportTask → Found → State → ((State → Type 0 → Type 0) → Type 0) → End → Type 0
 ReportsBatch task found old at_end end = at_end (λ last whole. ReportsFile task old last whole end)
+
+-- ---- a run over a database file
+
+-- the end of the task, or the end for the fault of the file
+abbrev pub end_of_taken : Result End FileFault → End
+end_of_taken (Ok end) = end
+end_of_taken (Err fault) = end_of_file fault
+
+-- The task with the relation `Ran` ran over the store in the files, and has the end `end`. Or no
+-- task ran, and `end` is the end for the fault that says why.
+pub record EndsOver {D : Type 0} (g : Ghosts D) (image : Image) (IsFresh : Bool → D → Type 0) (wanted : Wanted) (Ran : Found → State → ((State → Type 0 → Type 0) → Type 0) → End → Type 0) (end : End) : Type 0 where
+  pub how : OverFiles g image (λ conn. RunsOver conn (MayHaveCommits image) wanted Ran end)
+      ⊎ ((fault : FileFault) × (end ≡ end_of_file fault) × IsNotTaken g image IsFresh wanted fault)
+
+-- ---- a run of the program
+
+module _ {D : Type 0} (g : Ghosts D) (image : Image) (IsFresh : Bool → D → Type 0) where
+  -- the end of a run of the given subcommand, with the event lines of `level`; only `serve` creates
+  -- a database file
+  abbrev pub Obeys : Level → Words → End → Type 0
+  Obeys level (words.Serve db port turns) end =
+      (task : ServeTask) × (task.path.now ≡ string_bytes db) × (task.port ≡ port) × (task.turns ≡ turns) × (task.level ≡ level) × EndsOver g image IsFresh Any (Serves task) end
+  Obeys level (words.Report db batch) end = (task : ReportTask) × (task.batch ≡ batch) × EndsOver g image IsFresh Ours (ReportsBatch task) end
+  Obeys level (words.Feed port start) end = Feeds start None None None None None end
+  Obeys level (words.Plan max low check) end = Plans (product_of max low check) None None None end
+  Obeys level words.Drill end = DrillRuns None None None end
+
+  -- The arguments are a subcommand that was run, or `end` is the end for their fault.
+  abbrev pub EndsRun : End → Type 0
+  EndsRun end =
+      ((level : Level) × (w : Words) × InRange w × Obeys level w end)
+      ⊎ ((fault : WordsFault) × (is_written : Bool) × (end ≡ end_of_words fault is_written))
+
+  -- `status` is the exit status of a run.
+  abbrev pub Exits : ℕ → Type 0
+  Exits status = (end : End) × EndsRun end × (status ≡ (exit_of end).status)

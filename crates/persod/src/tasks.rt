@@ -1,5 +1,7 @@
 //! The tasks of `persod` over the store in a database file, and its simulated machine.
+ghost use Rattle.std.specs.Prelude.{None};
 ghost use Rattle.arguments.specs.Words.{IsBoot};
+ghost use Rattle.subcommands.specs.Runs.{FeedRuns, Feeds};
 
 use arguments::FeedStart;
 use event_lines::{EventLog, Level};
@@ -127,6 +129,9 @@ pub fn feed<E: Write + Drop>(
     events: &mut EventLog<E>,
 ) -> End
     requires { IsBoot start.boot }
+    ensures runs { FeedRuns E.contents start None None None None None events.old events.new
+        result }
+    ensures feeds { Feeds start None None None None None result }
 {
     let mut exchange = Port::new(rt, rt.alloc(), port);
     run_feed(

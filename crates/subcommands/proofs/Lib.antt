@@ -1,1 +1,2 @@
 mod FlushLemmas
+pub mod RunLemmas

@@ -2,14 +2,14 @@
 use Rattle.std.specs.Prelude.{◌≡◌, ⊤, ℕ, Bool, List, codes, Option, Result}
 use Rattle.store_data.specs.declared.row.Product.{Product}
 use Rattle.text_io.specs.Inputs.{Agrees}
-use Rattle.plan_print.specs.PlanEnds.{PlanEndsWithEvents}
+use Rattle.plan_print.specs.PlanEnds.{PlanEnds, PlanEndsWithEvents}
 use Rattle.plan_print.specs.declared.plan.PlanStop.{PlanStop}
 use Rattle.over_tables.specs.Drills.{DrillEnds}
 use Rattle.drill.specs.declared.stop.DrillStop.{DrillStop}
 use Rattle.feeding.specs.Feeds.{at_first}
 use Rattle.event_lines.specs.declared.log.EventLog.{EventLog}
 use Rattle.feeding.specs.Events.{FeedEndsWithEvents}
-use Rattle.feeding.specs.Tries.{Try}
+use Rattle.feeding.specs.Tries.{FeedEnds, Try}
 use Rattle.feeding.specs.declared.engine.FeedStop.{FeedStop}
 use Rattle.subcommands.specs.Ends.{end_of_drill, end_of_feed, end_of_plan}
 use Rattle.subcommands.specs.declared.end.End.{End}
@@ -45,6 +45,20 @@ FeedRuns contents start known log_before log_after before after old new end =
     (ended : Result (Unit {0}) FeedStop) × (end ≡ end_of_feed ended)
     × FeedEndsWithEvents contents (at_first start.machine start.boot start.batch) known
     log_before log_after before after old new ended
+
+-- a run of `plan` as in `PlanRuns`, without its event lines
+abbrev pub Plans : Product → Option (List ℕ) → Option (List ℕ) → Option (List ℕ) → End → Type 0
+Plans p known before after end = (raw : List ℕ) × Agrees known raw
+    × (ended : Result (Unit {0}) PlanStop) × (end ≡ end_of_plan ended)
+    × PlanEnds p raw before after ended
+
+-- a run of `feed` as in `FeedRuns`, without its event lines
+abbrev pub Feeds : FeedStart → Option (List ℕ) → Option (List Try) → Option (List Try)
+    → Option (List ℕ) → Option (List ℕ) → End → Type 0
+Feeds start known log_before log_after before after end =
+    (ended : Result (Unit {0}) FeedStop) × (end ≡ end_of_feed ended)
+    × FeedEnds (at_first start.machine start.boot start.batch) known
+    log_before log_after before after ended
 
 -- a run of the given subcommand, which must be `plan` or `drill`; `drill` leaves the log as it is
 abbrev pub Runs : {E : Type 0} → (E → Option (List ℕ)) → Words → Option (List ℕ) → Option (List ℕ) → Option (List ℕ)

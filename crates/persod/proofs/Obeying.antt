@@ -1,0 +1,55 @@
+-- Lemmas: from the end of a task or of a run over streams to the end of the subcommand.
+use Rattle.std.proofs.Common.{◌≡◌, ◌∙◌, ap, inl, inr, refl, subst, sym, ℕ, Bool, List, Option, Result, Ok, Err, IfOk, IfErr, None}
+use Rattle.std.specs.Prelude.{String, string_bytes}
+use Rattle.std.specs.Global.{Global}
+use Rattle.sqlite.specs.Recovery.{Image}
+use Rattle.sqlite_disk.specs.declared.Disk.{Ghosts}
+use Rattle.arguments.specs.declared.words.Words.{Words}
+use Rattle.arguments.specs.declared.words.Words.TheVariants as words
+use Rattle.event_lines.specs.declared.level.Level.{Level}
+use Rattle.event_lines.specs.declared.log.EventLog.{EventLog}
+use Rattle.job_facts.specs.Store.{State}
+use Rattle.over_tables.specs.declared.fault.FileFault.{FileFault}
+use Rattle.over_tables.specs.declared.opening.Wanted.{Wanted}
+use Rattle.over_tables.specs.declared.opening.Wanted.TheVariants.{Any, Ours}
+use Rattle.store_files.specs.Files.{IsNotTaken, MayHaveCommits, OverFiles, RunsOver}
+use Rattle.store_files.specs.declared.file.Found.{Found}
+use Rattle.subcommands.specs.Joins.{wanted_of}
+use Rattle.subcommands.specs.Runs.{Runs, product_of}
+use Rattle.subcommands.specs.declared.end.End.{End}
+use Rattle.subcommands.proofs.RunLemmas.{plans_of}
+use Rattle.persod.specs.Tasks.{EndsOver, Obeys, ReportsBatch, Serves, end_of_taken}
+use Rattle.persod.specs.declared.tasks.ReportTask.{ReportTask}
+use Rattle.persod.specs.declared.tasks.ServeTask.{ServeTask}
+
+-- A task ran, or the file was refused.
+pub ends_over :
+    {D : Type 0} (g : Ghosts D) (image : Image) (IsFresh : Bool → D → Type 0) (wanted : Wanted) (Ran : Found → State → ((State → Type 0 → Type 0) → Type 0) → End → Type 0) (taken : Result End FileFault) (end : End)
+    → end ≡ end_of_taken taken → IfOk taken (λ done. OverFiles g image (λ conn. RunsOver conn (MayHaveCommits image) wanted Ran done)) → IfErr taken (IsNotTaken g image IsFresh wanted)
+    → EndsOver g image IsFresh wanted Ran end
+ends_over g image IsFresh wanted Ran (Ok done) end is ran refused =
+    record { how = inl (subst (λ (e : End). OverFiles g image (λ conn. RunsOver conn (MayHaveCommits image) wanted Ran e)) (sym is) ran) }
+ends_over g image IsFresh wanted Ran (Err fault) end is ran refused = record { how = inr (fault, is, refused) }
+
+module _ {D : Type 0} {g : Ghosts D} {image : Image} {IsFresh : Bool → D → Type 0} where
+  pub obeys_serve : (task : ServeTask) (w : Words) (db : String Global) (wanted : Wanted) (end : End) → w ≡ words.Serve db task.port task.turns → wanted ≡ wanted_of w → task.path.now ≡ string_bytes db
+      → EndsOver g image IsFresh wanted (Serves task) end → Obeys g image IsFresh task.level w end
+  obeys_serve task w db wanted end is wants at ends =
+      let any : wanted ≡ Any = wants ∙ ap wanted_of is in
+      let over = subst (λ (x : Wanted). EndsOver g image IsFresh x (Serves task) end) any ends in
+      subst (λ (x : Words). Obeys g image IsFresh task.level x end) (sym is) (task, at, refl, refl, refl, over)
+
+  pub obeys_report : (task : ReportTask) (w : Words) (db : String Global) (wanted : Wanted) (level : Level) (end : End) → w ≡ words.Report db task.batch → wanted ≡ wanted_of w
+      → EndsOver g image IsFresh wanted (ReportsBatch task) end → Obeys g image IsFresh level w end
+  obeys_report task w db wanted level end is wants ends =
+      let ours : wanted ≡ Ours = wants ∙ ap wanted_of is in
+      let over = subst (λ (x : Wanted). EndsOver g image IsFresh x (ReportsBatch task) end) ours ends in
+      subst (λ (x : Words). Obeys g image IsFresh level x end) (sym is) (task, refl, over)
+
+module _ {D : Type 0} (g : Ghosts D) (image : Image) (IsFresh : Bool → D → Type 0) (level : Level) where
+  pub obeys_streams : {E : Type 0} (contents : E → Option (List ℕ)) (old new : EventLog E) (w : Words) (end : End) → Runs contents w None None None old new end → Obeys g image IsFresh level w end
+  obeys_streams contents old new (words.Plan max low check) end runs = plans_of contents (product_of max low check) None None None old new end runs
+  obeys_streams contents old new words.Drill end runs = runs.0
+  obeys_streams contents old new (words.Serve db port turns) end runs = absurd runs
+  obeys_streams contents old new (words.Report db batch) end runs = absurd runs
+  obeys_streams contents old new (words.Feed port start) end runs = absurd runs
