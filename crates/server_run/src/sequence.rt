@@ -64,6 +64,7 @@ pub(crate) fn serve_connections<S: ServerStore, C: Connections, E: Write + Drop>
         let observation = with_product(store, events.is_on(), observation);
         connections.back(incoming, writer, observation.served);
         is_failing = note_connection(alloc, events, is_failing, &observation);
+        drop(observation);
         count += 1;
     }
     let outcome = Ok(());
