@@ -59,7 +59,11 @@ fn check_drained(
     assert_eq!(rt; crowd.first_read.get(), size);
     serve(&mut port, start, 1)?;
     assert_eq!(rt; crowd.now(), 4000);
-    assert_eq!(rt; crowd.first_read.get().saturating_sub(size), read, "{start}");
+    assert_eq!(rt;
+        crowd.first_read.get().saturating_sub(size),
+        read,
+        "{start}"
+    );
     Ok(())
 }
 

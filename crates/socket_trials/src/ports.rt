@@ -27,7 +27,13 @@ fn check(
     assert_eq!(rt; came.is_some(), is_whole);
     let is_reply = came.is_some_and(|came| came.as_slice() == REPLY);
     assert_eq!(rt; is_reply, is_whole);
-    assert_eq!(rt; (millis(floor.write_wait.get()), millis(floor.read_wait.get())), waits);
+    assert_eq!(rt;
+        (
+            millis(floor.write_wait.get()),
+            millis(floor.read_wait.get())
+        ),
+        waits
+    );
     Ok(())
 }
 

@@ -104,9 +104,13 @@ enum Run<'a> {
         room: usize,
     },
     // Serves a `product` request. The writer of event lines has room for `room` bytes.
-    CutLines { room: usize },
+    CutLines {
+        room: usize,
+    },
     // Serves a `product` request with a writer that can be flushed `flushes` times.
-    Flushed { flushes: u32 },
+    Flushed {
+        flushes: u32,
+    },
 }
 
 // Runs a server. The inner result is its end, unless an allocation fails.
