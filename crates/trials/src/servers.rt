@@ -43,6 +43,9 @@ const BROKEN: &[u8] = b"GET /batch/B9 HTTP/1.1";
 // that doesn't exist, and an incomplete request line.
 const ALL_KINDS: &[&[u8]] = &[PRODUCT, PRODUCT, REUSED, MALFORMED, NO_BATCH, BROKEN];
 
+// A product, a batch file with an identifier twice, and a product with an invalid value.
+const REFUSED: &[&[u8]] = &[PRODUCT, TWICE, MAX_256];
+
 const NO_TEXTS: &[&[u8]] = &[];
 
 const NEW: Opened<'static> = Opened {
@@ -242,13 +245,12 @@ answered status=400 code=400 name=malformed cause=value member=max request=\"POS
 closed connections=3
 ";
     let lines = b"listening 127.0.0.1:8807\nserved 3\n";
-    let texts: [&[u8]; 3] = [PRODUCT, TWICE, MAX_256];
-    let run = || {
-        let store = ListStore::new(rt.alloc());
-        served_over(rt.alloc(), store, NEW, &texts, 3, Level::Usual)
+    let run = Run::Lists {
+        texts: REFUSED,
+        turns: 3,
+        level: Level::Usual,
     };
-    assert_ends!(rt; run(), Ok(()), lines, events);
-    Ok(())
+    check(&rt, rt.alloc(), run, Ok(()), lines, events)
 }
 
 // The bodies of refusals have four forms.
