@@ -2,15 +2,16 @@
 -- In the folder of the restored shop.db: sqlite3 old/shop.db <lost.sql >requests
 -- It changes no row. In another folder it creates an empty shop.db.
 -- docs/OPERATING.md, "Restore a backup", says how to send the requests.
+-- Tables of the old file are named main.NAME, because SQLite would take a missing one from the copy.
 ATTACH 'shop.db' AS copy;
 
 -- Blanks that are charged only in the old file.
-SELECT '{"do":"discard","blank":' || serial || '}' FROM blank
+SELECT '{"do":"discard","blank":' || serial || '}' FROM main.blank
   WHERE serial NOT IN (SELECT serial FROM copy.blank) ORDER BY serial;
 
 -- Records that are good (4) or withdrawn (3) only in the old file.
 SELECT '{"do":"withdraw","batch":"' || batch.name || '","record":"' || record.name || '"}'
-  FROM record JOIN batch ON batch.id = record.batch
+  FROM main.record JOIN main.batch ON batch.id = record.batch
   WHERE record.state IN (3, 4) AND (batch.name, record.name) NOT IN
     (SELECT b.name, r.name FROM copy.record r JOIN copy.batch b ON b.id = r.batch
       WHERE r.state IN (3, 4))
