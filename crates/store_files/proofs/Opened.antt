@@ -72,11 +72,11 @@ pub clean_before : {D : Type 0} (g : Ghosts D) (log after db : D) → OnlyReads 
 clean_before g log after db read clean = and_from _ _ (read.clean (clean_log g after db clean)) (and_parts _ _ clean).1
 
 -- Files that were just opened show the bytes of the image that they had.
-pub whole_in : {D : Type 0} (g : Ghosts D) (held : Image) (first : Files D) → image_of g first ≡ held → lost_commits (g.seen first.db) (g.seen first.log) ≡ 0 → IsWholeWal held
-whole_in g held first same whole = subst (λ (i : Image). IsWholeWal i) same whole
+pub whole_in : {D : Type 0} (g : Ghosts D) (held : Image) (first examined : Files D) → OnlyReads g first.log examined.log → image_of g first ≡ held → lost_commits (g.seen first.db) (g.seen first.log) ≡ 0 → IsWholeWal held
+whole_in g held first examined reads same whole = subst (λ (i : Image). IsWholeWal i) same whole
 
-pub long_in : {D : Type 0} (g : Ghosts D) (held : Image) (first : Files D) → image_of g first ≡ held → (has_log : Bool) → IsTrue has_log ↔ (41 < length (g.seen first.log)) → IsTrue has_log ↔ MayHaveCommits held
-long_in g held first same has_log long = subst (λ (i : Image). IsTrue has_log ↔ MayHaveCommits i) same long
+pub long_in : {D : Type 0} (g : Ghosts D) (held : Image) (first examined : Files D) → OnlyReads g first.log examined.log → image_of g first ≡ held → (has_log : Bool) → IsTrue has_log ↔ (41 < length (g.seen first.log)) → IsTrue has_log ↔ MayHaveCommits held
+long_in g held first examined reads same has_log long = subst (λ (i : Image). IsTrue has_log ↔ MayHaveCommits i) same long
 
 -- A task that ran with one statement about the WAL ran with an equivalent statement.
 pub runs_with :

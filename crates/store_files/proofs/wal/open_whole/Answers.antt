@@ -39,10 +39,10 @@ pub returns-in-Ok-open_in-clause-whole : goal.returns-in-Ok-open_in-clause-whole
 returns-in-Ok-open_in-clause-whole g c clean =
     let (log, db) = c.in-Ok.ensures.fresh in
     let first = ap₂ image (ap₂ (seen g.S.Start.log g.S.Start.db) log.0 log.1) (ap₂ (seen g.S.Start.log g.S.Start.db) db.0 db.1) in
-    whole_in _ (image_at g.S.Start) c.in-Ok.files first (c.in-Ok-examine.ensures.whole (c.in-Ok-open_in.ensures.found clean).honest)
+    whole_in _ (image_at g.S.Start) c.in-Ok.files c.examine.new.files c.examine.ensures.log first (c.in-Ok-examine.ensures.whole (c.in-Ok-open_in.ensures.found clean).honest)
 
 pub returns-in-Ok-open_in-clause-log : goal.returns-in-Ok-open_in-clause-log
 returns-in-Ok-open_in-clause-log g c clean =
     let (log, db) = c.in-Ok.ensures.fresh in
     let first = ap₂ image (ap₂ (seen g.S.Start.log g.S.Start.db) log.0 log.1) (ap₂ (seen g.S.Start.log g.S.Start.db) db.0 db.1) in
-    long_in _ (image_at g.S.Start) c.in-Ok.files first c.in-Ok-examine.has_log (c.in-Ok-examine.ensures.long (c.in-Ok-open_in.ensures.found clean).honest)
+    long_in _ (image_at g.S.Start) c.in-Ok.files c.examine.new.files c.examine.ensures.log first c.in-Ok-examine.has_log (c.in-Ok-examine.ensures.long (c.in-Ok-open_in.ensures.found clean).honest)
