@@ -22,9 +22,21 @@ use job_facts::Call;
 use serde_json::Value;
 use std::alloc::{AllocError, Global};
 
-const PRODUCT: &[Member] = &[Member::Do, Member::Product, Member::Max, Member::Low, Member::Check];
+const PRODUCT: &[Member] = &[
+    Member::Do,
+    Member::Product,
+    Member::Max,
+    Member::Low,
+    Member::Check,
+];
 
-const LOT: &[Member] = &[Member::Do, Member::Lot, Member::Product, Member::First, Member::Count];
+const LOT: &[Member] = &[
+    Member::Do,
+    Member::Lot,
+    Member::Product,
+    Member::First,
+    Member::Count,
+];
 
 const OPEN: &[Member] = &[Member::Do, Member::Batch, Member::Blank];
 
@@ -160,7 +172,9 @@ fn first_wrong<'a>(value: &Value, row: &'a [Member]) -> Option<&'a Member>
 fn first_additional<'a>(value: &Value, row: &[Member], members: &'a [Member]) -> Option<&'a Member>
     ensures { option_copied result ≡ find (is_additional (view value.now) row.now) members.now }
 {
-    members.iter().find(|member| is_additional(value, row, **member))
+    members
+        .iter()
+        .find(|member| is_additional(value, row, **member))
 }
 
 fn is_wrong(value: &Value, member: Member) -> bool

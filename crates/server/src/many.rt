@@ -31,13 +31,7 @@ pub fn serve_all<S: JobStore, C: Connections>(
     let mut turn = 0;
     while turn < turns {
         let (mut incoming, mut writer) = connections.next()?;
-        let (served, meaning) = serve_by(
-            &mut routes,
-            alloc,
-            store,
-            &mut incoming,
-            &mut writer,
-        );
+        let (served, meaning) = serve_by(&mut routes, alloc, store, &mut incoming, &mut writer);
         drop(meaning);
         connections.back(incoming, writer, served);
         turn += 1;
