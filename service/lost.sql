@@ -1,9 +1,14 @@
 -- Lists the work that a restored backup lacks, as requests of the office, one in each line.
 -- In the folder of the restored shop.db: sqlite3 old/shop.db <lost.sql >requests
 -- It changes no row. In another folder it creates an empty shop.db.
+-- If both files are the same, it fails.
 -- docs/OPERATING.md, "Restore a backup", says how to send the requests.
 -- Tables of the old file are named main.NAME, because SQLite would take a missing one from the copy.
 ATTACH 'shop.db' AS copy;
+
+CREATE TEMP TABLE two_files (differ CONSTRAINT "shop.db is the old file" CHECK (differ));
+INSERT INTO two_files SELECT old.file <> new.file FROM pragma_database_list old JOIN pragma_database_list new
+  WHERE old.name = 'main' AND new.name = 'copy';
 
 -- Blanks that are charged only in the old file.
 SELECT '{"do":"discard","blank":' || serial || '}' FROM main.blank
