@@ -123,6 +123,7 @@ class Machine:
         """Decides what to do with a card whose `open` was refused."""
         code = reply["code"]
         if code in (57, 62):
+            print(f"{self.name}: no more cards: {code} {reply['refused']}", file=sys.stderr)
             return None
         if code not in (58, 59, 60, 61):
             raise self.stopped(blank, reply, reject=code == 73)

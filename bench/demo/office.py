@@ -597,8 +597,8 @@ def fault_in(raw: bytes, code: int, number: int) -> dict[str, object]:
     if code in FIELD_OF or code == 35:
         place = FIELD_OF.get(code) or (5 if row.fields[3] in ("0", "1", "2") else 4)
         found["field"] = f"{place} ({FIELDS[place - 1]})"
-    if code == 36:
-        found["cause"] = grouping_fault(row.fields[5])
+        if code in FIELD_FAULTS:
+            found["cause"] = FIELD_FAULTS[code](row.fields[place - 1])
     return found
 
 
@@ -632,9 +632,28 @@ def conflict(rows: list[Row], record: str, code: int) -> list[Row]:
     return []
 
 
+def name_fault(text: str) -> str:
+    """Returns the first cause of fault 32 that applies."""
+    return "empty" if not text else "over 32 bytes" if len(text) > 32 else "character"
+
+
+def aid_fault(text: str) -> str:
+    """Returns the first cause of fault 33 that applies."""
+    if not is_hex(text):
+        return "not hexadecimal"
+    return "under 5 bytes" if len(text) < 10 else "over 16 bytes"
+
+
+def rank_fault(text: str) -> str:
+    """Returns the first cause of fault 34 that applies."""
+    if not re.fullmatch("[0-9]*", text):
+        return "not decimal"
+    return "empty" if not text else "over 3 digits" if len(text) > 3 else "0"
+
+
 def grouping_fault(text: str) -> str:
     """Returns the first cause of fault 36 that applies."""
-    if len(text) % 2 or not re.fullmatch(r"[0-9A-Fa-f]*", text):
+    if not is_hex(text):
         return "not hexadecimal"
     data = bytes.fromhex(text)
     if len(data) < 2:
@@ -646,6 +665,13 @@ def grouping_fault(text: str) -> str:
     if count > 16_384:
         return "data over 16,384 bytes"
     return "short data" if len(data) - begin < count else "bytes after the grouping"
+
+
+def is_hex(text: str) -> bool:
+    return len(text) % 2 == 0 and re.fullmatch("[0-9A-Fa-f]*", text) is not None
+
+
+FIELD_FAULTS = {32: name_fault, 33: aid_fault, 34: rank_fault, 36: grouping_fault}
 
 
 # ---- accounts
