@@ -27,7 +27,7 @@ pub ends_over :
     {D : Type 0} (g : Ghosts D) (image : Image) (IsFresh : Bool → D → Type 0) (wanted : Wanted) (Ran : Found → State → ((State → Type 0 → Type 0) → Type 0) → End → Type 0) (taken : Result End FileFault) (end : End)
     → end ≡ end_of_taken taken → IfOk taken (λ done. OverFiles g image (λ conn. RunsOver conn (MayHaveCommits image) wanted Ran done)) → IfErr taken (IsNotTaken g image IsFresh wanted)
     → EndsOver g image IsFresh wanted Ran end
-ends_over g image IsFresh wanted Ran (Ok done) end is ran refused =
+ends_over g image IsFresh wanted Ran (Ok ended) end is ran refused =
     record { how = inl (subst (λ (e : End). OverFiles g image (λ conn. RunsOver conn (MayHaveCommits image) wanted Ran e)) (sym is) ran) }
 ends_over g image IsFresh wanted Ran (Err fault) end is ran refused = record { how = inr (fault, is, refused) }
 
