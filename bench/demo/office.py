@@ -556,7 +556,7 @@ def record_states(report: str) -> dict[str, str]:
 # The reply has the code and the row. This part finds the line, record, field and cause in the file.
 
 FIELDS = ("record", "aid", "rank", "enc", "tol", "dgi")
-FIELD_OF = {32: 1, 33: 2, 34: 3, 36: 6, 37: 6}
+FIELD_OF = {22: 6, 32: 1, 33: 2, 34: 3, 36: 6, 37: 6}
 
 
 class Row(NamedTuple):
@@ -587,19 +587,37 @@ def fault_in(raw: bytes, code: int, number: int) -> dict[str, object]:
     if number > 1:
         name = row.fields[0]
         found["record"] = f'"{name}"' if NAME.fullmatch(name) else f"of {len(name)} bytes"
-    if code in (21, 22):
-        pair = conflict(list(rows.values()), row.fields[0], code)
+    pair = conflict(list(rows.values()), row.fields[0], code) if code in (21, 22) else []
+    if pair:
         found["rows"] = " and ".join(f"{one.number} (line {one.line})" for one in pair)
     if code == 30:
         found["fields"] = len(row.fields)
-        if re.search("[;\t]", "".join(row.fields)):
-            found["cause"] = "separate fields with commas"
-    if code in FIELD_OF or code == 35:
-        place = FIELD_OF.get(code) or (5 if row.fields[3] in ("0", "1", "2") else 4)
+        found["cause"] = count_fault(row.fields)
+    place = wrong_field(code, row, pair)
+    if place:
         found["field"] = f"{place} ({FIELDS[place - 1]})"
         if code in FIELD_FAULTS:
             found["cause"] = FIELD_FAULTS[code](row.fields[place - 1])
     return found
+
+
+def wrong_field(code: int, row: Row, pair: list[Row]) -> Optional[int]:
+    """Returns the number of the field with the fault, if it is a single field."""
+    if code == 21:
+        return 4 if pair[0].fields[3] != pair[1].fields[3] else 5
+    if code == 31 and len(row.fields) == len(FIELDS):
+        names = zip(row.fields, FIELDS)
+        return next((place for place, (one, name) in enumerate(names, 1) if one != name), None)
+    if code == 35:
+        return 5 if row.fields[3] in ("0", "1", "2") else 4
+    return FIELD_OF.get(code)
+
+
+def count_fault(fields: list[str]) -> str:
+    """Returns the cause of fault 30."""
+    if re.search("[;\t]", "".join(fields)):
+        return "separate fields with commas"
+    return "too few" if len(fields) < len(FIELDS) else "too many"
 
 
 def rows_of(raw: bytes) -> Iterator[Row]:
@@ -671,7 +689,19 @@ def is_hex(text: str) -> bool:
     return len(text) % 2 == 0 and re.fullmatch("[0-9A-Fa-f]*", text) is not None
 
 
-FIELD_FAULTS = {32: name_fault, 33: aid_fault, 34: rank_fault, 36: grouping_fault}
+def column_fault(text: str) -> str:
+    """Returns the cause of fault 31."""
+    return "not the name of the column"
+
+
+def marks_fault(text: str) -> str:
+    """Returns the cause of fault 21."""
+    return "differs between the two rows"
+
+
+FIELD_FAULTS = {
+    21: marks_fault, 31: column_fault, 32: name_fault, 33: aid_fault, 34: rank_fault, 36: grouping_fault,
+}
 
 
 # ---- accounts
