@@ -26,7 +26,7 @@ PERSOD = sys.argv[1]
 CLIENT = "m1"
 COUNT = 40_000
 ROUNDS = 5
-MOST = 1.5
+MOST = 3.0
 ASK = b'\0{"do":"reset","session":1}'
 BODY = b'{"result":"spoiled","session":1}'
 
