@@ -30,7 +30,7 @@ pub use batches::{
 };
 pub use blanks::is_charged;
 pub use groupings::{CodedAt, GroupingAt, coded_of, grouping_count, groupings_of};
-pub use lots::{LotRow, all_lots, last_lot, lot, lot_count, lots_of, overlaps};
+pub use lots::{LotRow, MOST_SERIAL, all_lots, last_lot, lot, lot_count, lots_of, overlaps};
 pub use marks::mark;
 pub use products::{product, product_count};
 pub use records::{RecordAt, first_waiting, record_at, record_named, records_of};

@@ -1,6 +1,6 @@
 //! The statements that read the table `lot`.
-ghost use Rattle.std.specs.Prelude.{◌≡◌, ◌<◌, ◌^◌, false, filter, find, length, map};
-ghost use Rattle.std.specs.Prelude.{option_map, IfOk, IfSome, IsPermutation};
+ghost use Rattle.std.specs.Prelude.{◌≡◌, false, filter, find, length, map, min, option_map};
+ghost use Rattle.std.specs.Prelude.{IfOk, IfSome, IsPermutation};
 ghost use Rattle.sqlite.specs.Held.{state};
 ghost use Rattle.job_facts.specs.States.{any_overlaps};
 ghost use Rattle.row_reads.specs.Decoding.{IsAny, lot_in, lot_row_in};
@@ -18,6 +18,9 @@ use sql_base::{int, rows_of};
 use sqlite::types::ValueRef;
 use sqlite::{Alter, Connection, Error, Row};
 use store_data::Name;
+
+/// The highest serial of a blank.
+pub const MOST_SERIAL: u64 = 999_999_999_999_999_999;
 
 /// A lot with the number of its discarded blanks.
 #[derive(Clone, Copy)]
@@ -100,18 +103,19 @@ pub fn lots_of<S: Alter>(conn: &mut Connection<S>, product: &Name) -> Result<Vec
     all_of(conn, sql, &[ValueRef::Text(product.bytes())])
 }
 
-/// Returns the last lot that starts at or before `blank`. SQLite finds it with the index on
-/// `low_serial`.
+/// Returns the last lot that starts at or before `blank`, or at or before `MOST_SERIAL` if `blank`
+/// is higher. SQLite finds it with the index on `low_serial`.
 pub fn last_lot<S: Alter>(conn: &mut Connection<S>, blank: u64) -> Result<Option<Lot>, Error>
-    requires idle { conn.old.in_transaction ≡ false }
-    requires blank { blank < 2 ^ 63 }
+    requires { conn.old.in_transaction ≡ false }
     ensures found { ReadsRows (state S.Store conn.old) (state S.Store conn.new) result
-        (λ t found. IsLastBegun blank (map (λ (l : StoredLot). l.lot) t.lots) found) }
+        (λ t found. IsLastBegun (min blank MOST_SERIAL) (map (λ (l : StoredLot). l.lot) t.lots)
+        found) }
     ensures looks { Looks (state S.Store conn.old) (state S.Store conn.new) }
 {
+    let serial = blank.min(MOST_SERIAL);
     let sql = "SELECT low_serial, amount, name, product FROM lot WHERE low_serial <= ?1 \
         ORDER BY low_serial DESC LIMIT 1";
-    one_of(conn, sql, &[int(blank)])
+    one_of(conn, sql, &[int(serial)])
 }
 
 /// Returns `true` if a lot contains one of the `count` serials that start with `first`.

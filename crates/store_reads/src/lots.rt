@@ -10,9 +10,6 @@ use job_facts::{Lot, lot_among};
 use sqlite::{Alter, Connection, Error};
 use store_data::Name;
 
-// The highest serial of a blank.
-const MOST_SERIAL: u64 = 999_999_999_999_999_999;
-
 /// Returns the lot with the name `name`.
 pub fn lot<S: Alter>(conn: &mut Connection<S>, name: &Name) -> Result<Option<Lot>, Error>
     requires { conn.old.in_transaction ≡ false }
@@ -34,7 +31,7 @@ pub fn lot_of<S: Alter>(conn: &mut Connection<S>, blank: u64) -> Result<Option<L
     ensures looks { Looks (state S.Store conn.old) (state S.Store conn.new) }
 {
     row_laws::lots_by_name();
-    let last = row_reads::last_lot(conn, blank.min(MOST_SERIAL))?;
+    let last = row_reads::last_lot(conn, blank)?;
     Ok(lot_among(last.as_slice(), blank).copied())
 }
 
