@@ -1,13 +1,15 @@
 //! Applies a change to the facts.
-ghost use Rattle.std.specs.Prelude.{◌≡◌, IfErr, Ok, OnErr, OnOk};
+ghost use Rattle.std.specs.Prelude.{◌≡◌, IfErr, IfOk, Ok, OnErr, OnOk};
+ghost use Rattle.store_data.specs.Sequence.{IsProduct};
 ghost use Rattle.job_facts.specs.declared.store.StoreFault.TheVariants.{Memory};
 ghost use Rattle.job_facts.specs.Facts.{at_session, ended, worded};
 ghost use Rattle.job_facts.specs.Sound.{changed};
 
 use crate::kept::copied;
-use crate::lists::{FactLists, KeptBatch, KeptRecord, KeptSession, KnownProduct};
+use crate::lists::{FactLists, KeptBatch, KeptRecord, KeptSession};
 use job_facts::{Change, StoreFault};
 use std::alloc::Global;
+use store_data::{Product, ValidProduct};
 
 /// Applies `change` to `facts`. After an error `facts` is unchanged.
 pub(crate) fn change_facts(
@@ -21,7 +23,7 @@ pub(crate) fn change_facts(
 {
     match *change {
         Change::Nothing => (),
-        Change::AddsProduct { product } => facts.products.push(KnownProduct::new(product)?)?,
+        Change::AddsProduct { product } => facts.products.push(valid(product)?)?,
         Change::AddsLot { lot } => facts.lots.push(lot)?,
         Change::AddsBatch { ref batch } => facts.batches.push(KeptBatch {
             name: batch.name,
@@ -48,6 +50,15 @@ pub(crate) fn change_facts(
         Change::Closes { batch } => facts.closed.push(batch)?,
     }
     Ok(())
+}
+
+// Wraps `product`. A product out of range returns `Memory`. Sound facts contain no such product.
+fn valid(product: Product) -> Result<ValidProduct, StoreFault>
+    ensures value { IfOk result (λ valid. valid ≡ product) }
+    ensures there { IsProduct product → result ≡ Ok product }
+    ensures cause { IfErr result (λ fault. fault ≡ Memory) }
+{
+    ValidProduct::new(product).ok_or(StoreFault::Memory)
 }
 
 // Adds the status word `sw` to the session with the number `session`. Does nothing if the session

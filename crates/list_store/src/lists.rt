@@ -1,53 +1,11 @@
 //! The lists of the store, and their elements.
-ghost use Rattle.std.specs.Prelude.{◌≡◌, IfErr, IfOk, Ok, OnErr, OnOk};
-ghost use Rattle.store_data.specs.Sequence.{IsProduct};
+ghost use Rattle.std.specs.Prelude.{◌≡◌, OnErr, OnOk};
 ghost use Rattle.job_facts.specs.Facts.{ended, no_facts, worded};
-ghost use Rattle.job_facts.specs.declared.store.StoreFault.TheVariants.{Memory};
 
-use job_facts::{Lot, StoreFault};
+use job_facts::Lot;
 use std::alloc::{AllocError, Global};
 use std::marker::Model;
-use store_data::{Bytes, Name, Product};
-
-/// A product whose values are in range.
-#[derive(Drop)]
-pub(crate) struct KnownProduct {
-    product: Product,
-}
-
-impl Model for KnownProduct {
-    ghost use Rattle.store_data.specs.Sequence.{IsProduct};
-    ghost use Rattle.store_data.specs.declared.row.Product.{Product as ProductValue};
-
-    ghost Value = { ProductValue };
-
-    ghost view = { λ p. p.product };
-
-    ghost invariant = { λ p. IsProduct p.product };
-}
-
-impl KnownProduct {
-    /// Wraps `product`. A product out of range returns `Memory`. Sound facts contain no such
-    /// product.
-    pub(crate) fn new(product: Product) -> Result<KnownProduct, StoreFault>
-        ensures value { IfOk result (λ known. known ≡ product) }
-        ensures there { IsProduct product → result ≡ Ok product }
-        ensures cause { IfErr result (λ fault. fault ≡ Memory) }
-    {
-        if product.max >= 16 && product.low <= 31 {
-            Ok(KnownProduct { product })
-        } else {
-            Err(StoreFault::Memory)
-        }
-    }
-
-    pub(crate) fn product(&self) -> Product
-        ensures value { result ≡ self.now }
-        ensures ranged { IsProduct result }
-    {
-        self.product
-    }
-}
+use store_data::{Bytes, Name, ValidProduct};
 
 /// A batch, with the bytes of its file.
 #[derive(Drop)]
@@ -125,7 +83,7 @@ impl Model for KeptRecord {
 /// The facts, as one list for each kind.
 #[derive(Drop)]
 pub(crate) struct FactLists {
-    pub(crate) products: Vec<KnownProduct>,
+    pub(crate) products: Vec<ValidProduct>,
     pub(crate) lots: Vec<Lot>,
     pub(crate) batches: Vec<KeptBatch>,
     pub(crate) sessions: Vec<KeptSession>,

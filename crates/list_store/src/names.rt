@@ -3,16 +3,16 @@ ghost use Rattle.std.specs.Prelude.{◌≡◌, IfSome, option_copied};
 ghost use Rattle.store_data.specs.Sequence.{IsProduct};
 ghost use Rattle.job_facts.specs.States.{batch_named, lot_named, product_named};
 
-use crate::lists::{KeptBatch, KnownProduct};
+use crate::lists::KeptBatch;
 use job_facts::Lot;
-use store_data::{Name, Product};
+use store_data::{Name, Product, ValidProduct};
 
-pub(crate) fn product_named(products: &[KnownProduct], code: &Name) -> Option<Product>
+pub(crate) fn product_named(products: &[ValidProduct], code: &Name) -> Option<Product>
     ensures value { result ≡ product_named products.now code.now }
     ensures ranged { IfSome result IsProduct }
 {
-    for known in products {
-        let product = known.product();
+    for valid in products {
+        let product = valid.product();
         if product.code == *code {
             return Some(product);
         }

@@ -1,7 +1,6 @@
 //! Finds the cause for refusing an import after its reply was sent, and writes its event line.
-ghost use Rattle.std.specs.Prelude.{◌≡◌, IfSome, option_map};
+ghost use Rattle.std.specs.Prelude.{◌≡◌, option_map};
 ghost use Rattle.event_lines.specs.Notes.{NotesAll};
-ghost use Rattle.store_data.specs.Sequence.{IsProduct};
 ghost use Rattle.job_facts.specs.Reopening.{counts_of};
 ghost use Rattle.job_facts.specs.Store.{Stays};
 ghost use Rattle.server_run.specs.ImportLines.{FindsProduct, ReadsProduct, file_lines, import_in};
@@ -16,7 +15,7 @@ use import_causes::note_refused;
 use job_facts::{Call, Request, ServerStore};
 use std::alloc::Global;
 use std::io::Write;
-use store_data::{Name, Product};
+use store_data::{Name, ValidProduct};
 
 /// Adds the product of an import that was refused, because the cause can depend on it. `is_on`
 /// tells whether event lines are written. Otherwise nothing is read.
@@ -30,7 +29,6 @@ pub(crate) fn with_product<S: ServerStore>(
     ensures after { result.after ≡ counts_of (S.state store.new) }
     ensures product { ReadsProduct (S.state store.old) (S.state store.new) observation.meaning
         result.product }
-    ensures ranged { IfSome result.product IsProduct }
 {
     let product = refused_product(store, is_on, &observation);
     observation.product = product;
@@ -43,11 +41,10 @@ fn refused_product<S: ServerStore>(
     store: &mut S,
     is_on: bool,
     observation: &Observation,
-) -> Option<Product>
+) -> Option<ValidProduct>
     ensures stays { Stays (S.state store.old) (S.state store.new) }
     ensures product { ReadsProduct (S.state store.old) (S.state store.new) observation.now.meaning
         result }
-    ensures ranged { IfSome result IsProduct }
 {
     if !is_on {
         return None;
@@ -61,13 +58,13 @@ fn refused_product<S: ServerStore>(
     }
 }
 
-fn product_named<S: ServerStore>(store: &mut S, code: &Name) -> Option<Product>
+fn product_named<S: ServerStore>(store: &mut S, code: &Name) -> Option<ValidProduct>
     ensures stays { Stays (S.state store.old) (S.state store.new) }
     ensures product { FindsProduct (S.state store.old) (S.state store.new) code.now result }
-    ensures ranged { IfSome result IsProduct }
 {
     match store.product(code) {
-        Ok(product) => product,
+        Ok(Some(product)) => ValidProduct::new(product),
+        Ok(None) => None,
         Err(_) => None,
     }
 }
@@ -110,13 +107,12 @@ pub(crate) fn note_import<E: Write + Drop>(
     events: &mut EventLog<E>,
     observation: &Observation,
 )
-    requires { IfSome observation.now.product IsProduct }
     ensures level { events.new.level ≡ events.old.level }
     ensures noted { NotesAll events.old.level (E.contents events.old.writer)
         (E.contents events.new.writer) (import_lines observation.now) }
 {
-    match observation.product {
-        Some(product) => note_file(alloc, events, observation, &product),
+    match &observation.product {
+        Some(product) => note_file(alloc, events, observation, product),
         None => (),
     }
 }
@@ -126,9 +122,8 @@ fn note_file<E: Write + Drop>(
     alloc: Global,
     events: &mut EventLog<E>,
     observation: &Observation,
-    product: &Product,
+    product: &ValidProduct,
 )
-    requires { IsProduct product.now }
     ensures level { events.new.level ≡ events.old.level }
     ensures noted { NotesAll events.old.level (E.contents events.old.writer)
         (E.contents events.new.writer) (file_lines product.now (imported observation.now.meaning)
@@ -145,10 +140,9 @@ fn note_words<E: Write + Drop>(
     alloc: Global,
     events: &mut EventLog<E>,
     observation: &Observation,
-    product: &Product,
+    product: &ValidProduct,
     raw: &[u8],
 )
-    requires { IsProduct product.now }
     ensures level { events.new.level ≡ events.old.level }
     ensures noted { NotesAll events.old.level (E.contents events.old.writer)
         (E.contents events.new.writer) (words_lines product.now raw.now
@@ -156,7 +150,7 @@ fn note_words<E: Write + Drop>(
 {
     let parts = reply_parts(observation.reply.as_slice());
     match refusal_in(parts.1) {
-        Some((_, name)) => note_refused(alloc, raw, product, name, events),
+        Some((_, name)) => note_refused(alloc, raw, &product.product(), name, events),
         None => (),
     }
 }

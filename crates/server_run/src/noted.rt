@@ -1,7 +1,6 @@
 //! Writes the event lines of a connection.
-ghost use Rattle.std.specs.Prelude.{◌≡◌, IfSome};
+ghost use Rattle.std.specs.Prelude.{◌≡◌};
 ghost use Rattle.event_lines.specs.Notes.{NotesAll};
-ghost use Rattle.store_data.specs.Sequence.{IsProduct};
 ghost use Rattle.server_run.specs.ConnectionLines.{fails_after, lines_at, own_lines};
 ghost use Rattle.server_run.specs.ConnectionLines.{recovery_lines};
 
@@ -21,7 +20,6 @@ pub fn note_connection<E: Write + Drop>(
     is_failing: bool,
     observation: &Observation,
 ) -> bool
-    requires { IfSome observation.now.product IsProduct }
     ensures level { events.new.level ≡ events.old.level }
     ensures noted { NotesAll events.old.level (E.contents events.old.writer)
         (E.contents events.new.writer) (lines_at events.old.level is_failing observation.now) }

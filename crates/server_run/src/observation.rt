@@ -6,7 +6,7 @@ use crate::words::status_digits;
 use http_requests::Meaning;
 use job_facts::{FaultCounts, StoreFault};
 use server::{Beginning, End, Served};
-use store_data::Product;
+use store_data::ValidProduct;
 
 /// The observation of a served connection.
 #[derive(Drop)]
@@ -21,7 +21,7 @@ pub struct Observation {
     /// The meaning of its bytes.
     pub meaning: Meaning,
     /// The product of a refused import, if it was read.
-    pub product: Option<Product>,
+    pub product: Option<ValidProduct>,
     /// The fault counters of the store before the connection.
     pub before: FaultCounts,
     /// The fault counters of the store after the connection.

@@ -3,5 +3,5 @@ use Rattle.job_facts.specs.States.{product_named}
 use Rattle.list_store.proofs.names.product_named.Given as goal
 
 -- No product before this one has the name.
-abbrev pub invariant-loop-known : goal.invariant-loop-known
-invariant-loop-known l = product_named (drop l.known-index l.products) l.code ≡ product_named l.products l.code
+abbrev pub invariant-loop-valid : goal.invariant-loop-valid
+invariant-loop-valid l = product_named (drop l.valid-index l.products) l.code ≡ product_named l.products l.code
