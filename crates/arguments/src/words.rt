@@ -181,21 +181,18 @@ fn program<'a>(alloc: Global) -> Result<Command<'a>, AllocError>
 fn plan_command<'a>(alloc: Global) -> Result<Command<'a>, AllocError>
     ensures { IfOk result (λ c. (app_of c ≡ plan_command) × ((fields_of c).has_globals ≡ false)) }
 {
-    let max = number_or(alloc, "max", value_parser!(u8).range(16..=255), "255").help(
-        "Maximum number of data bytes in a STORE DATA command, 16 to 255",
-    );
-    let low = number_or(alloc, "low", value_parser!(u8).range(0..=31), "0").help(
-        "Bits 5 to 1 of P1 in every STORE DATA command, 0 to 31",
-    );
-    let check = flag(alloc, "check").help(
-        "Check that each unencrypted EMV record has the form of EMV Book 3",
-    );
     Command::new(alloc, "plan")
         .about("Print the commands for each record of a batch file, read from standard input")
         .after_help(STATUSES_OF_PLAN)
-        .arg(max)?
-        .arg(low)?
-        .arg(check)
+        .arg(number_or(alloc, "max", value_parser!(u8).range(16..=255), "255").help(
+            "Maximum number of data bytes in a STORE DATA command, 16 to 255",
+        ))?
+        .arg(number_or(alloc, "low", value_parser!(u8).range(0..=31), "0").help(
+            "Bits 5 to 1 of P1 in every STORE DATA command, 0 to 31",
+        ))?
+        .arg(flag(alloc, "check").help(
+            "Check that each unencrypted EMV record has the form of EMV Book 3",
+        ))
 }
 
 fn drill_command<'a>(alloc: Global) -> Command<'a>
@@ -209,54 +206,45 @@ fn drill_command<'a>(alloc: Global) -> Command<'a>
 fn serve_command<'a>(alloc: Global) -> Result<Command<'a>, AllocError>
     ensures { IfOk result (λ c. (app_of c ≡ serve_command) × ((fields_of c).has_globals ≡ false)) }
 {
-    let db = text_needed(alloc, "db", "PATH").help(
-        "Path of the database file; created if it does not exist",
-    );
-    let port = port_needed(alloc).help("Port on 127.0.0.1, 1 to 65535");
-    let turns = number_needed(alloc, "turns", value_parser!(u32).range(1..=1_000_000)).help(
-        "Number of connections to serve before exiting, 1 to 1000000",
-    );
     Command::new(alloc, "serve")
         .about("Serve requests on 127.0.0.1 with a database file, one connection after another")
         .after_help(STATUSES_AND_EVENTS)
-        .arg(db)?
-        .arg(port)?
-        .arg(turns)
+        .arg(text_needed(alloc, "db", "PATH").help(
+            "Path of the database file; created if it does not exist",
+        ))?
+        .arg(port_needed(alloc).help("Port on 127.0.0.1, 1 to 65535"))?
+        .arg(number_needed(alloc, "turns", value_parser!(u32).range(1..=1_000_000)).help(
+            "Number of connections to serve before exiting, 1 to 1000000",
+        ))
 }
 
 fn report_command<'a>(alloc: Global) -> Result<Command<'a>, AllocError>
     ensures { IfOk result (λ c. (app_of c ≡ report_command) × ((fields_of c).has_globals ≡ false)) }
 {
-    let db = text_needed(alloc, "db", "PATH").help(
-        "Path of the database file; it must exist, and no server may have it open",
-    );
-    let batch = text_needed(alloc, "batch", "NAME").help("Name of the batch");
     Command::new(alloc, "report")
         .about("Print the report of a batch")
         .after_help(STATUSES_AND_EVENTS)
-        .arg(db)?
-        .arg(batch)
+        .arg(text_needed(alloc, "db", "PATH").help(
+            "Path of the database file; it must exist, and no server may have it open",
+        ))?
+        .arg(text_needed(alloc, "batch", "NAME").help("Name of the batch"))
 }
 
 fn feed_command<'a>(alloc: Global) -> Result<Command<'a>, AllocError>
     ensures { IfOk result (λ c. (app_of c ≡ feed_command) × ((fields_of c).has_globals ≡ false)) }
 {
-    let port = port_needed(alloc).help("Port of the server on 127.0.0.1, 1 to 65535");
-    let machine = text_needed(alloc, "machine", "NAME").help("Name of the machine");
-    let boot = boot_needed(alloc).help(
-        "Boot number, 1 to 9999999999; must increase at every start of the machine. With at most \
-        900719924, all request numbers are below 2^53",
-    );
-    let batch = text_needed(alloc, "batch", "NAME").help("Name of the batch");
     Command::new(alloc, "feed")
         .about(
             "Personalise cards as a machine; each line of standard input is a card: SERIAL SW ..",
         )
         .after_help(STATUSES_AND_EVENTS)
-        .arg(port)?
-        .arg(machine)?
-        .arg(boot)?
-        .arg(batch)
+        .arg(port_needed(alloc).help("Port of the server on 127.0.0.1, 1 to 65535"))?
+        .arg(text_needed(alloc, "machine", "NAME").help("Name of the machine"))?
+        .arg(boot_needed(alloc).help(
+            "Boot number, 1 to 9999999999; must increase at every start of the machine. With at \
+            most 900719924, all request numbers are below 2^53",
+        ))?
+        .arg(text_needed(alloc, "batch", "NAME").help("Name of the batch"))
 }
 
 // `--port N`, required
