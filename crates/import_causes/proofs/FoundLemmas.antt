@@ -114,7 +114,7 @@ same_by_key x y k of_x of_y =
     let same : x.aid ≡ y.aid = same-bytes_eq x.aid k of_x ∙ sym (same-bytes_eq y.aid k of_y) in
     subst (λ (a : List ℕ). bytes_eq x.aid a ≡ true) same (bytes_eq-same x.aid)
 
--- the fault is of two rows, and in an application, `test` finds them
+-- two rows have the fault if they pass `clash`; in the same application, those that pass `test` do
 module _ (fault : PlanFault) (m : ℕ) (clash test : Summary → Summary → Bool)
     (is : (before : List Numbered) (row : Numbered) → partner fault m before row ≡ find (λ (e : Numbered). clash e.1 row.1) before)
     (weaker : (x y : Summary) → same_application x y ≡ true → clash x y ≡ false → test x y ≡ false) where
