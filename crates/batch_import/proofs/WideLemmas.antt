@@ -1,5 +1,5 @@
--- Proves that the first CSV record with too many fields, which is found from the unit that each
--- byte ends, is one of the CSV records of the text.
+-- Proves that the first CSV record with too many fields, which is found from the effect of each
+-- byte, is one of the CSV records of the text.
 use Rattle.std.proofs.Common.{◌≡◌, ◌≤◌, ◌<◌, ◌+◌, ℕ, Bool, true, false, List, [], ◌∷◌, ◌++◌, length, slice_get, Option, Some, None, refl, sym, ap, ◌∙◌, arith, add-one, drop, subst, inl, inr}
 use Rattle.std.specs.Prelude.{◌⊎◌, ◌==◌, IfSome, nat_lt, slice_index, if◌then◌else◌}
 use Rattle.std.proofs.lemmas.Bool.{cases_Bool, cond_both, ltb-true, ne_eqb}
@@ -11,15 +11,17 @@ use Rattle.csv.specs.declared.parser.Action.{Action}
 use Rattle.csv.specs.declared.parser.Action.TheVariants as act
 use Rattle.csv.specs.declared.parser.State.{State}
 use Rattle.csv.specs.declared.parser.State.TheVariants as st
+use Rattle.batch_import.specs.Grammar.{effect_of}
 use Rattle.batch_import.specs.Records.{records_of}
 use Rattle.batch_import.specs.RecordsLeft.{records_after}
 use Rattle.batch_import.specs.RowByRow.{Before, data_rows, file_rows, header_of, row_of}
 use Rattle.batch_import.specs.Rows.{HasFault, Records}
-use Rattle.batch_import.specs.WideRows.{HasWideAt, IsWideAt, ends_of, found_after, wide_after}
+use Rattle.batch_import.specs.WideRows.{HasWideAt, IsWideAt, found_after, wide_after}
 use Rattle.batch_import.specs.declared.fault.ImportFault.{ImportFault}
 use Rattle.batch_import.specs.declared.fault.ImportFault.TheVariants as fault
 use Rattle.batch_import.specs.declared.fault.Kind.TheVariants as kind
-use Rattle.batch_import.specs.declared.wide.Ends.{Ends}
+use Rattle.batch_import.specs.declared.grammar.Effect.{Effect}
+use Rattle.batch_import.specs.declared.grammar.Effect.TheVariants as effect
 use Rattle.batch_import.proofs.RecordLemmas.{between-step, dropped, records_after-next, records_of-start}
 
 -- ---- a CSV record that has begun ends, and it has more fields than have ended so far
@@ -142,7 +144,7 @@ wide-there rows s records count fields field (c ∷ rest) n (counted, begun, is)
         → drop records rows ≡ records_next records_after
         (if is_end r.1 then Some (fields_after r.1 fields field, r.0, rest)
         else next_record default_config r.0 (fields_after r.1 fields field) (field_after r.1 c field) rest)
-        → found_after (ends_of r.1) records count (λ records count. wide_after r.0 records count rest) ≡ Some n → IsWideAt rows n
+        → found_after (effect_of r.1) records count (λ records count. wide_after r.0 records count rest) ≡ Some n → IsWideAt rows n
     at (s, act.Skip) between begins inside more is found = more s records count fields field (counted, (λ e. inside e refl), is) found
     at (s, act.Copy) between begins inside more is found = more s records count fields (field ++ (c ∷ [])) (counted, (λ e. inside e refl), is) found
     at (s, act.EndRecord) between begins inside more is found =
@@ -172,12 +174,18 @@ wide-is raw (Some n) found =
 
 -- ---- one byte of a text
 
-pub byte-on : (text : List ℕ) (i records fields : ℕ) (s now : State) (ended : Ends) → i < length text
-    → now ≡ (step default_config s (slice_index text i)).0 → ended ≡ ends_of (step default_config s (slice_index text i)).1
-    → wide_after s records fields (drop i text) ≡ found_after ended records fields (λ records fields. wide_after now records fields (drop (i + 1) text))
+pub byte-on : (text : List ℕ) (i records fields : ℕ) (s now : State) (after : Effect) → i < length text
+    → now ≡ (step default_config s (slice_index text i)).0 → after ≡ effect_of (step default_config s (slice_index text i)).1
+    → wide_after s records fields (drop i text) ≡ found_after after records fields (λ records fields. wide_after now records fields (drop (i + 1) text))
 unfolding wide_after
-byte-on text i records fields s now ended inside stands ends =
-    ap (wide_after s records fields) (drop_more text i 0 inside) ∙ rw (stands, ends) refl
+byte-on text i records fields s now after inside stands is =
+    ap (wide_after s records fields) (drop_more text i 0 inside) ∙ rw (stands, is) refl
+
+-- a byte that ends nothing
+pub stays : (after : Effect) (records fields : ℕ) (more : ℕ → ℕ → Option ℕ) → (after ≡ effect.Skip) ⊎ (after ≡ effect.Keep)
+    → found_after after records fields more ≡ more records fields
+stays after records fields more (inl skip) = rw skip refl
+stays after records fields more (inr keep) = rw keep refl
 
 -- ---- CSV records to come
 

@@ -103,34 +103,51 @@ pair-head fault m before more row none = at (partner fault m before row) refl no
     at None was none = (was, none)
     at (Some x) was none = absurd (cc)
 
-module _ (fault : PlanFault) (m : ℕ) (clash : Summary → Summary → Bool)
-    (is : (before : List Numbered) (row : Numbered) → partner fault m before row ≡ find (λ (e : Numbered). clash e.1 row.1) before) where
-  abbrev apart_by : Numbered → Numbered → Bool
-  apart_by x y = clash x.1 y.1
+abbrev aid_of : Summary → List ℕ
+aid_of row = row.aid
 
-  unpaired : (before rows : List Numbered) → first_pair fault m before rows ≡ None → Across apart_by before rows × Pairless apart_by rows
-  unpaired before [] none = (tt, tt)
-  unpaired before (row ∷ more) none =
-      let head = pair-head fault m before more row none in
-      let later = unpaired (before ++ row ∷ []) more head.1 in
-      let both = across-split apart_by before row more later.0 in
-      ((find-none (λ (e : Numbered). clash e.1 row.1) before (sym (is before row) ∙ head.0), both.0), (both.1, later.1))
-
--- ---- fault 21
+abbrev summary_in : Numbered → Summary
+summary_in e = e.1
 
 same_by_key : (x y : Summary) (k : List ℕ) → bytes_eq x.aid k ≡ true → bytes_eq y.aid k ≡ true → same_application x y ≡ true
 same_by_key x y k of_x of_y =
     let same : x.aid ≡ y.aid = same-bytes_eq x.aid k of_x ∙ sym (same-bytes_eq y.aid k of_y) in
     subst (λ (a : List ℕ). bytes_eq x.aid a ≡ true) same (bytes_eq-same x.aid)
 
+-- two rows have the fault if they pass `clash`; in the same application, those that pass `test` do
+module _ (fault : PlanFault) (m : ℕ) (clash test : Summary → Summary → Bool)
+    (is : (before : List Numbered) (row : Numbered) → partner fault m before row ≡ find (λ (e : Numbered). clash e.1 row.1) before)
+    (weaker : (x y : Summary) → same_application x y ≡ true → clash x y ≡ false → test x y ≡ false) where
+  abbrev clash_in : Numbered → Numbered → Bool
+  clash_in x y = clash x.1 y.1
+
+  unpaired : (before rows : List Numbered) → first_pair fault m before rows ≡ None → Across clash_in before rows × Pairless clash_in rows
+  unpaired before [] none = (tt, tt)
+  unpaired before (row ∷ more) none =
+      let head = pair-head fault m before more row none in
+      let later = unpaired (before ++ row ∷ []) more head.1 in
+      let both = across-split clash_in before row more later.0 in
+      ((find-none (λ (e : Numbered). clash e.1 row.1) before (sym (is before row) ∙ head.0), both.0), (both.1, later.1))
+
+  -- without a pair of rows, no application has the fault
+  none_faulty : (is_faulty : List Summary → Bool) → ((own : List Summary) → Pairless test own → is_faulty own ≡ false)
+      → (rows : List Numbered) → first_pair fault m [] rows ≡ None → list_any is_faulty (grouped aid_of (map summary_in rows)) ≡ false
+  unfolding grouped
+  none_faulty is_faulty sound rows none =
+      let all = map summary_in rows in
+      let apart = mapped summary_in clash rows (unpaired [] rows none).1 in
+      any-map is_faulty (with_the_key aid_of all)
+      (λ k. sound (with_the_key aid_of all k)
+      (refined (λ (row : Summary). bytes_eq row.aid k) clash test (λ x y of_x of_y. weaker x y (same_by_key x y k of_x of_y)) all apart))
+      (first_appearances (map aid_of all))
+
+-- ---- fault 21
+
 abbrev unlike : Summary → Summary → Bool
 unlike x y = not (same_marks x y)
 
 abbrev unlike_in_rank : Summary → Summary → Bool
 unlike_in_rank x y = (x.rank == y.rank) && not (same_marks x y)
-
-in_application : (k : List ℕ) (x y : Summary) → bytes_eq x.aid k ≡ true → bytes_eq y.aid k ≡ true → differ x y ≡ false → unlike_in_rank x y ≡ false
-in_application k x y of_x of_y apart = rw (same_by_key x y k of_x of_y) at apart
 
 in_rank : (r : ℕ) (x y : Summary) → (x.rank == r) ≡ true → (y.rank == r) ≡ true → unlike_in_rank x y ≡ false → unlike x y ≡ false
 in_rank r x y of_x of_y apart =
@@ -145,16 +162,11 @@ group_alike : (rows : List Summary) → Pairless unlike rows → list_any (λ (r
 group_alike [] none = refl
 group_alike (x ∷ more) none = or_from (not (are_alike (x ∷ more))) false (not_from_true (are_alike (x ∷ more)) (all_marks x more none.0)) refl
 
-abbrev aid_of : Summary → List ℕ
-aid_of row = row.aid
-
-application_alike : (rows : List Summary) (k : List ℕ) → Pairless differ rows → marks_differ (with_the_key aid_of rows k) ≡ false
+application_alike : (own : List Summary) → Pairless unlike_in_rank own → marks_differ own ≡ false
 unfolding marks_differ by_rank
-application_alike rows k none =
-    let own = with_the_key aid_of rows k in
-    let apart : Pairless unlike_in_rank own = refined (λ (row : Summary). bytes_eq row.aid k) differ unlike_in_rank (in_application k) rows none in
+application_alike own none =
     any-flat (λ (rows : List Summary). not (are_alike rows)) (λ (r : ℕ). group_of (of_rank rank_of own r))
-    (λ r. group_alike (of_rank rank_of own r) (refined (λ (row : Summary). rank_of row == r) unlike_in_rank unlike (in_rank r) own apart))
+    (λ r. group_alike (of_rank rank_of own r) (refined (λ (row : Summary). rank_of row == r) unlike_in_rank unlike (in_rank r) own none))
     ranks
 
 first_marks : (a b c : Bool) → first_of a b c ≡ Some plan.MarksDiffer → a ≡ true
@@ -163,44 +175,27 @@ first_marks false true c is = absurd (cc)
 first_marks false false true is = absurd (cc)
 first_marks false false false is = absurd (cc)
 
-marks_paired : (m : ℕ) (rows : List Summary) → summaries_fault m rows ≡ Some plan.MarksDiffer → Pairless differ rows → ⊥
-unfolding summaries_fault grouped
-marks_paired m rows is none =
-    let apps = map (with_the_key aid_of rows) (first_appearances (map aid_of rows)) in
-    both_ways (list_any marks_differ apps)
-    (any-map marks_differ (with_the_key aid_of rows) (λ k. application_alike rows k none) (first_appearances (map aid_of rows)))
-    (first_marks (list_any marks_differ apps) _ _ is)
-
 -- ---- fault 22
 
-same_identifier : (k : List ℕ) (x y : Summary) → bytes_eq x.aid k ≡ true → bytes_eq y.aid k ≡ true → repeat x y ≡ false → nat_eq x.identifier y.identifier ≡ false
-same_identifier k x y of_x of_y apart = rw (same_by_key x y k of_x of_y) at apart
+abbrev identifier_of : Summary → ℕ
+identifier_of row = row.identifier
+
+abbrev same_identifier : Summary → Summary → Bool
+same_identifier x y = nat_eq x.identifier y.identifier
 
 once : (xs : List ℕ) → Pairless nat_eq xs → has_twice xs ≡ false
 once [] none = refl
 once (x ∷ xs) none = or_from (list_any (nat_eq x) xs) (has_twice xs) (any-none (nat_eq x) xs none.0) (once xs none.1)
 
-application_once : (rows : List Summary) (k : List ℕ) → Pairless repeat rows → identifier_twice (with_the_key aid_of rows k) ≡ false
+application_once : (own : List Summary) → Pairless same_identifier own → identifier_twice own ≡ false
 unfolding identifier_twice
-application_once rows k none =
-    let own = with_the_key aid_of rows k in
-    let apart : Pairless (λ (x y : Summary). nat_eq x.identifier y.identifier) own
-    = refined (λ (row : Summary). bytes_eq row.aid k) repeat (λ (x y : Summary). nat_eq x.identifier y.identifier) (same_identifier k) rows none in
-    once (map (λ (row : Summary). row.identifier) own) (mapped (λ (row : Summary). row.identifier) nat_eq own apart)
+application_once own none = once (map identifier_of own) (mapped identifier_of nat_eq own none)
 
 first_twice : (a b c : Bool) → first_of a b c ≡ Some plan.IdentifierTwice → b ≡ true
 first_twice true b c is = absurd (cc)
 first_twice false true c is = refl
 first_twice false false true is = absurd (cc)
 first_twice false false false is = absurd (cc)
-
-twice_paired : (m : ℕ) (rows : List Summary) → summaries_fault m rows ≡ Some plan.IdentifierTwice → Pairless repeat rows → ⊥
-unfolding summaries_fault grouped
-twice_paired m rows is none =
-    let apps = map (with_the_key aid_of rows) (first_appearances (map aid_of rows)) in
-    both_ways (list_any identifier_twice apps)
-    (any-map identifier_twice (with_the_key aid_of rows) (λ k. application_once rows k none) (first_appearances (map aid_of rows)))
-    (first_twice (list_any marks_differ apps) (list_any identifier_twice apps) _ is)
 
 -- ---- fault 23
 
@@ -233,15 +228,14 @@ no_memory false true c is = cc
 no_memory false false true is = cc
 no_memory false false false is = cc
 
-abbrev summary_in : Numbered → Summary
-summary_in e = e.1
-
 never_unpaired : (fault : PlanFault) (m : ℕ) (rows : List Numbered) → summaries_fault m (map summary_in rows) ≡ Some fault → first_pair fault m [] rows ≡ None → ⊥
 unfolding summaries_fault
 never_unpaired plan.MarksDiffer m rows is none =
-    marks_paired m (map summary_in rows) is (mapped summary_in differ rows (unpaired plan.MarksDiffer m differ (λ before row. refl) [] rows none).1)
+    let faulty = list_any marks_differ (grouped aid_of (map summary_in rows)) in
+    both_ways faulty (none_faulty plan.MarksDiffer m differ unlike_in_rank (λ before row. refl) (λ x y same apart. rw same at apart) marks_differ application_alike rows none) (first_marks faulty _ _ is)
 never_unpaired plan.IdentifierTwice m rows is none =
-    twice_paired m (map summary_in rows) is (mapped summary_in repeat rows (unpaired plan.IdentifierTwice m repeat (λ before row. refl) [] rows none).1)
+    let faulty = list_any identifier_twice (grouped aid_of (map summary_in rows)) in
+    both_ways faulty (none_faulty plan.IdentifierTwice m repeat same_identifier (λ before row. refl) (λ x y same apart. rw same at apart) identifier_twice application_once rows none) (first_twice _ faulty _ is)
 never_unpaired plan.TooManyBlocks m rows is none = full_paired m [] rows (ap is_too_many is) (never_full m) none
 never_unpaired plan.Memory m rows is none = no_memory _ _ _ is
 

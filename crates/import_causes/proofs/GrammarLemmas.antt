@@ -6,8 +6,8 @@ use Rattle.csv.specs.Reading.{default_config}
 use Rattle.csv.specs.declared.parser.Action.{Action}
 use Rattle.csv.specs.declared.parser.Action.TheVariants as act
 use Rattle.csv.specs.declared.parser.State.{State}
-use Rattle.import_causes.specs.Grammar.{effect_of, is_row_end}
-use Rattle.import_causes.specs.declared.grammar.Effect.TheVariants as effect
+use Rattle.batch_import.specs.Grammar.{effect_of, is_row_end}
+use Rattle.batch_import.specs.declared.grammar.Effect.TheVariants as effect
 
 -- a byte ends a row if the CSV reader ends a record
 pub ends-same : (a : Action) → is_row_end (effect_of a) ≡ is_end a

@@ -10,13 +10,13 @@ use Rattle.csv.specs.Reading.{default_config, records_next, strip_bom}
 use Rattle.csv.specs.declared.parser.State.{State}
 use Rattle.csv.specs.declared.parser.State.TheVariants as st
 use Rattle.batch_import.specs.Fields.{field}
+use Rattle.batch_import.specs.Grammar.{effect_of, is_row_end}
 use Rattle.batch_import.specs.RecordsLeft.{records_after}
+use Rattle.batch_import.specs.declared.grammar.Effect.{Effect}
 use Rattle.batch_import.proofs.RecordLemmas.{next-shorter, records_after-next, records_of-start}
-use Rattle.import_causes.specs.Grammar.{effect_of, is_row_end}
 use Rattle.import_causes.specs.RowTexts.{IsOf, fields_read, first_row}
 use Rattle.import_causes.specs.Starts.{after_read, after_rows, ends_line, from_row, is_line_byte, label_of, line_at, line_ends, row_fields, start_at, without_line_ends}
 use Rattle.import_causes.specs.declared.fields.RowText.{RowText}
-use Rattle.import_causes.specs.declared.grammar.Effect.{Effect}
 use Rattle.import_causes.specs.declared.start.RowLabel.{RowLabel}
 use Rattle.import_causes.proofs.GrammarLemmas.{by-end, by-more, ends-same, read-byte}
 

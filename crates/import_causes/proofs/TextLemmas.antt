@@ -7,9 +7,9 @@ use Rattle.csv.specs.Machine.{ends_at_end, next_record, step}
 use Rattle.csv.specs.Reading.{default_config}
 use Rattle.csv.specs.declared.parser.State.{State}
 use Rattle.batch_import.specs.Fields.{field}
-use Rattle.import_causes.specs.Grammar.{effect_of}
+use Rattle.batch_import.specs.Grammar.{effect_of}
+use Rattle.batch_import.specs.declared.grammar.Effect.TheVariants as effect
 use Rattle.import_causes.specs.RowTexts.{fields_read}
-use Rattle.import_causes.specs.declared.grammar.Effect.TheVariants as effect
 use Rattle.import_causes.proofs.GrammarLemmas.{by-field, by-keep, by-row, by-skip, read-byte}
 
 -- ---- the kept fields

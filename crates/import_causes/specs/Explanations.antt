@@ -54,25 +54,21 @@ abbrev pub start_pairs : Option RowStart → List ℕ
 start_pairs None = []
 start_pairs (Some start) = number_pair (codes "line") start.line ++ label_pair start.label
 
--- the earlier one of the two rows of a fault of a record
-abbrev pub other_pair : Option ℕ → List ℕ
-other_pair None = []
-other_pair (Some row) = number_pair (codes "other") row
-
-abbrev pub field_pair : Option ℕ → List ℕ
-field_pair None = []
-field_pair (Some number) = number_pair (codes "field") number
+-- a key and a number, if there is one
+abbrev pub optional_pair : List ℕ → Option ℕ → List ℕ
+optional_pair key None = []
+optional_pair key (Some number) = number_pair key number
 
 abbrev pub cause_pair : Option Cause → List ℕ
 cause_pair None = []
 cause_pair (Some cause) = pair (codes "cause") (word_of cause)
 
--- the text of the event line
+-- the text of the event line; `other` is the earlier one of the two rows of a fault of a record
 abbrev pub fault_text : Explanation → List ℕ
 fault_text e =
     codes "fault" ++ number_pair (codes "code") (code_of e.kind) ++ pair (codes "name") (name_of e.kind)
-    ++ number_pair (codes "row") e.row ++ other_pair e.other ++ start_pairs e.start
-    ++ field_pair e.blame.field ++ cause_pair e.blame.cause
+    ++ number_pair (codes "row") e.row ++ optional_pair (codes "other") e.other ++ start_pairs e.start
+    ++ optional_pair (codes "field") e.blame.field ++ cause_pair e.blame.cause
 
 -- ---- a refused import
 

@@ -5,6 +5,5 @@ pub mod Pairs
 pub mod Words
 pub mod Explanations
 -- used only by private functions and loops
-pub mod Grammar
 pub mod RowTexts
 pub mod Walks

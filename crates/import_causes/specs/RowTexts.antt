@@ -4,7 +4,7 @@ use Rattle.std.specs.Prelude.{◌≡◌, ℕ, List, [], length, map, take, Optio
 use Rattle.csv.specs.Machine.{Read, next_record}
 use Rattle.csv.specs.Reading.{default_config}
 use Rattle.csv.specs.declared.parser.State.TheVariants as st
-use Rattle.import_causes.specs.Grammar.{state_of}
+use Rattle.batch_import.specs.Grammar.{state_of}
 use Rattle.import_causes.specs.declared.fields.RowText.{RowText}
 use Rattle.import_causes.specs.declared.fields.RowReader.{RowReader}
 

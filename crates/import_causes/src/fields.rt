@@ -6,7 +6,7 @@ ghost use Rattle.std.specs.Prelude.{IfOk, MatchBool, OnOk};
 ghost use Rattle.batch_import.specs.Fields.{field};
 ghost use Rattle.import_causes.specs.RowTexts.{IsOf, IsReading, first_row};
 
-use crate::grammar::{Effect, Place, is_in_row, step};
+use batch_import::grammar::{Effect, Place, is_in_row, step};
 use std::alloc::{AllocError, Global};
 use std::mem;
 

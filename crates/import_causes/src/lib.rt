@@ -8,7 +8,6 @@ mod blame;
 mod cause;
 mod explanation;
 mod fields;
-mod grammar;
 mod line;
 mod pair;
 mod start;

@@ -7,9 +7,8 @@ ghost use Rattle.store_data.specs.Sequence.{IsProduct};
 ghost use Rattle.batch_import.specs.Batch.{batch_of};
 ghost use Rattle.batch_import.specs.Kinds.{name_of};
 ghost use Rattle.import_causes.specs.Explanations.{cause_pair, explanation_of, fault_lines};
-ghost use Rattle.import_causes.specs.Explanations.{fault_named, fault_text, field_pair};
-ghost use Rattle.import_causes.specs.Explanations.{label_pair, other_pair, refused_lines};
-ghost use Rattle.import_causes.specs.Explanations.{start_pairs};
+ghost use Rattle.import_causes.specs.Explanations.{fault_named, fault_text, label_pair};
+ghost use Rattle.import_causes.specs.Explanations.{optional_pair, refused_lines, start_pairs};
 
 use crate::cause::Cause;
 use crate::explanation::{Explanation, explain_fault};
@@ -141,18 +140,18 @@ pub fn fault_line(alloc: Global, explanation: Explanation) -> Result<EventLine, 
         .number("code", u64::from(explanation.kind.code()))?
         .word("name", explanation.kind.name())?
         .number("row", u64::from(explanation.row))?;
-    let line = with_other(line, explanation.other)?;
+    let line = with_number(line, "other", explanation.other.map(u64::from))?;
     let line = with_start(line, explanation.start)?;
-    let line = with_field(line, explanation.blame.field)?;
+    let line = with_number(line, "field", explanation.blame.field.map(u64::from))?;
     with_cause(line, explanation.blame.cause)
 }
 
-// Adds the earlier one of the two rows of a fault of a record.
-fn with_other(line: EventLine, other: Option<u32>) -> Result<EventLine, AllocError>
-    ensures { IfOk result (λ more. text_of more ≡ text_of line ++ other_pair other) }
+// Adds ` key=number`, if there is a number.
+fn with_number(line: EventLine, key: &str, number: Option<u64>) -> Result<EventLine, AllocError>
+    ensures { IfOk result (λ more. text_of more ≡ text_of line ++ optional_pair key.now number) }
 {
-    match other {
-        Some(row) => line.number("other", u64::from(row)),
+    match number {
+        Some(number) => line.number(key, number),
         None => Ok(line),
     }
 }
@@ -174,16 +173,6 @@ fn with_label(line: EventLine, label: RowLabel) -> Result<EventLine, AllocError>
     match label {
         RowLabel::Record(name) => line.quoted("record", name.bytes()),
         RowLabel::Bytes(count) => line.number("record-bytes", count),
-    }
-}
-
-// Adds the number of the field, if there is one.
-fn with_field(line: EventLine, field: Option<u8>) -> Result<EventLine, AllocError>
-    ensures { IfOk result (λ more. text_of more ≡ text_of line ++ field_pair field) }
-{
-    match field {
-        Some(number) => line.number("field", u64::from(number)),
-        None => Ok(line),
     }
 }
 

@@ -1,7 +1,6 @@
 //! Finds a row of a batch file, and the line at which it begins.
 ghost use Rattle.std.specs.Prelude.{◌≡◌, ◌≤◌, ◌<◌, ◌-◌, ◌+◌, ℕ, List, false, length};
 ghost use Rattle.std.specs.List.{prefix_len};
-ghost use Rattle.csv.specs.Reading.{strip_bom};
 ghost use Rattle.csv.specs.declared.parser.State.TheVariants as st;
 ghost use Rattle.batch_import.specs.Fields.{field};
 ghost use Rattle.import_causes.specs.RowTexts.{IsOf};
@@ -9,7 +8,7 @@ ghost use Rattle.import_causes.specs.Starts.{after_rows, ends_line, from_row, is
 ghost use Rattle.import_causes.specs.Starts.{label_of, line_at, line_ends, start_at};
 
 use crate::fields::RowText;
-use crate::grammar::{Place, is_row_end, step};
+use batch_import::grammar::{Place, is_row_end, step, without_mark};
 use store_data::Name;
 
 /// The words that identify a row of a batch file in an event line. They contain no card data unless
@@ -39,18 +38,6 @@ pub(crate) fn from_row(raw: &[u8], row: u32) -> &[u8]
 {
     let rest = after_rows(without_mark(raw), row.saturating_sub(1));
     &rest[line_ends_len(rest)..]
-}
-
-// Returns the file without a leading byte order mark.
-#[tactic(auto, unfolding(csv::specs::Reading::strip_bom))]
-fn without_mark(raw: &[u8]) -> &[u8]
-    ensures value { result.now ≡ strip_bom raw.now }
-    ensures bound { length result.now ≤ length raw.now }
-{
-    match raw {
-        [0xEF, 0xBB, 0xBF, text @ ..] => text,
-        _ => raw,
-    }
 }
 
 // Returns the bytes after the first `rows` rows of `text`, or no bytes if there are fewer rows.

@@ -1,6 +1,7 @@
 use Rattle.std.proofs.Common.{◌≡◌, ◌≤◌, drop}
 use Rattle.csv.specs.declared.parser.State.TheVariants as st
-use Rattle.batch_import.specs.WideRows.{state_of, wide_after}
+use Rattle.batch_import.specs.Grammar.{state_of}
+use Rattle.batch_import.specs.WideRows.{wide_after}
 use Rattle.batch_import.proofs.wide.first_wide.Given as goal
 
 abbrev pub invariant-loop-byte : goal.invariant-loop-byte

@@ -2,7 +2,7 @@ use Rattle.std.proofs.Common.{◌+◌, drop, length, subst, sym, arith, ◌∙�
 use Rattle.std.specs.Prelude.{slice_index}
 use Rattle.std.proofs.lemmas.List.{drop_all, take_rest}
 use Rattle.csv.specs.declared.parser.State.TheVariants as st
-use Rattle.import_causes.specs.Grammar.{state_of}
+use Rattle.batch_import.specs.Grammar.{state_of}
 use Rattle.import_causes.proofs.StartLemmas.{IsSkipping, after-zero, skip-at, skip-byte, skip-end, skip-last, skip-row, skip-start}
 use Rattle.import_causes.proofs.start.after_rows.Goals as goal
 use Rattle.import_causes.proofs.start.after_rows.Goals.{then-is_row_end+else-left-eq1, else-is_row_end}

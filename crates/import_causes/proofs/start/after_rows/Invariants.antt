@@ -1,5 +1,5 @@
 use Rattle.std.proofs.Common.{drop}
-use Rattle.import_causes.specs.Grammar.{state_of}
+use Rattle.batch_import.specs.Grammar.{state_of}
 use Rattle.import_causes.proofs.StartLemmas.{IsSkipping}
 use Rattle.import_causes.proofs.start.after_rows.Given as goal
 

@@ -1,5 +1,5 @@
 use Rattle.std.proofs.Common.{subst, sym, ap, ◌∙◌}
-use Rattle.import_causes.specs.Grammar.{state_of}
+use Rattle.batch_import.specs.Grammar.{state_of}
 use Rattle.import_causes.specs.RowTexts.{IsOf, fields_read}
 use Rattle.import_causes.proofs.TextLemmas.{end-none, end-row}
 use Rattle.import_causes.proofs.fields.RowReader.finish.Goals as goal

@@ -1,9 +1,9 @@
 use Rattle.std.proofs.Common.{ℕ, List, [], ◌∷◌, ◌++◌, subst, sym, ap, ◌∙◌}
 use Rattle.csv.specs.Machine.{next_record}
 use Rattle.csv.specs.Reading.{default_config}
-use Rattle.import_causes.specs.Grammar.{state_of}
+use Rattle.batch_import.specs.Grammar.{state_of}
+use Rattle.batch_import.specs.declared.grammar.Place.{Place}
 use Rattle.import_causes.specs.RowTexts.{IsOf, fields_read}
-use Rattle.import_causes.specs.declared.grammar.Place.{Place}
 use Rattle.import_causes.proofs.TextLemmas.{byte-field, byte-keep, byte-row, byte-skip}
 use Rattle.import_causes.proofs.fields.RowReader.take.Goals as goal
 

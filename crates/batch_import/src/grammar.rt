@@ -1,13 +1,13 @@
 //! The CSV grammar, one byte at a time (RFC 4180, as the crate `csv` reads it with its default
 //! settings).
-ghost use Rattle.std.specs.Prelude.{◌≡◌};
+ghost use Rattle.std.specs.Prelude.{◌≡◌, ◌≤◌, length};
 ghost use Rattle.csv.specs.Machine.{ends_at_end, in_field, start_field, step};
-ghost use Rattle.csv.specs.Reading.{default_config};
-ghost use Rattle.import_causes.specs.Grammar.{effect_of, is_row_end, state_of};
+ghost use Rattle.csv.specs.Reading.{default_config, strip_bom};
+ghost use Rattle.batch_import.specs.Grammar.{effect_of, is_row_end, state_of};
 
 /// The position of the next byte in the CSV grammar.
 #[derive(Clone, Copy)]
-pub(crate) enum Place {
+pub enum Place {
     /// Between two rows.
     Between,
     /// Between two rows, after a CR that ended one.
@@ -25,7 +25,7 @@ pub(crate) enum Place {
 
 /// The effect of a byte.
 #[derive(Clone, Copy)]
-pub(crate) enum Effect {
+pub enum Effect {
     /// The byte isn't part of a field.
     Skip,
     /// The byte is part of the current field.
@@ -36,8 +36,20 @@ pub(crate) enum Effect {
     EndRow,
 }
 
+/// Returns the file without a leading byte order mark (EF BB BF).
+#[tactic(auto, unfolding(csv::specs::Reading::strip_bom))]
+pub fn without_mark(raw: &[u8]) -> &[u8]
+    ensures value { result.now ≡ strip_bom raw.now }
+    ensures bound { length result.now ≤ length raw.now }
+{
+    match raw {
+        [0xEF, 0xBB, 0xBF, text @ ..] => text,
+        _ => raw,
+    }
+}
+
 /// Returns the position after `byte`, and the effect of `byte`.
-pub(crate) fn step(place: Place, byte: u8) -> (Place, Effect)
+pub fn step(place: Place, byte: u8) -> (Place, Effect)
     ensures place { state_of result.0 ≡ (step default_config (state_of place) byte).0 }
     ensures effect { result.1 ≡ effect_of (step default_config (state_of place) byte).1 }
 {
@@ -83,7 +95,7 @@ fn in_field(byte: u8) -> (Place, Effect)
 }
 
 /// Returns `true` if the byte with this effect ends a row.
-pub(crate) fn is_row_end(effect: Effect) -> bool
+pub fn is_row_end(effect: Effect) -> bool
     ensures { result ≡ is_row_end effect }
 {
     match effect {
@@ -95,7 +107,7 @@ pub(crate) fn is_row_end(effect: Effect) -> bool
 }
 
 /// Returns `true` if the end of the file ends a row at `place`.
-pub(crate) fn is_in_row(place: Place) -> bool
+pub fn is_in_row(place: Place) -> bool
     ensures { result ≡ ends_at_end (state_of place) }
 {
     match place {

@@ -1,14 +1,13 @@
--- Relates the positions and effects of this crate to the CSV reader of the crate `csv` (helper
--- definitions).
+-- Relates positions and effects of bytes to the CSV reader of the crate `csv`.
 use Rattle.std.specs.Prelude.{Bool, true, false}
 use Rattle.csv.specs.declared.parser.Action.{Action}
 use Rattle.csv.specs.declared.parser.Action.TheVariants as act
 use Rattle.csv.specs.declared.parser.State.{State}
 use Rattle.csv.specs.declared.parser.State.TheVariants as st
-use Rattle.import_causes.specs.declared.grammar.Effect.{Effect}
-use Rattle.import_causes.specs.declared.grammar.Effect.TheVariants as effect
-use Rattle.import_causes.specs.declared.grammar.Place.{Place}
-use Rattle.import_causes.specs.declared.grammar.Place.TheVariants as place
+use Rattle.batch_import.specs.declared.grammar.Effect.{Effect}
+use Rattle.batch_import.specs.declared.grammar.Effect.TheVariants as effect
+use Rattle.batch_import.specs.declared.grammar.Place.{Place}
+use Rattle.batch_import.specs.declared.grammar.Place.TheVariants as place
 
 -- the state of the CSV reader for a position
 abbrev pub state_of : Place → State
