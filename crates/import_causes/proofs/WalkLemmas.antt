@@ -1,15 +1,14 @@
 -- Proves that reading the rows of a file one by one finds the rows of a record.
-use Rattle.std.proofs.Common.{◌≡◌, ◌≤◌, ◌<◌, ◌+◌, ℕ, Bool, List, [], ◌∷◌, ◌++◌, length, Option, Some, None, Ok, refl, sym, subst, ap, ◌∙◌, arith, append-nil}
+use Rattle.std.proofs.Common.{◌≡◌, ◌≤◌, ◌<◌, ◌+◌, ℕ, List, [], ◌∷◌, ◌++◌, length, Option, Some, None, Ok, refl, sym, subst, ap, ◌∙◌, arith, append-nil}
 use Rattle.std.proofs.lemmas.List.{append_assoc, length-append}
 use Rattle.std.proofs.lemmas.List.Elements.{All-nil, All-push}
 use Rattle.store_data.specs.Sequence.{IsRow}
 use Rattle.store_data.specs.declared.row.Row.{Row}
-use Rattle.batch_import.specs.Batch.{Coming, coming_of, no_more}
+use Rattle.batch_import.specs.Batch.{Coming, no_more}
 use Rattle.batch_import.specs.Rows.{IsDue, Left, TakesRow, fault_only, row_then}
-use Rattle.batch_import.specs.Walks.{coming_count, rows_then}
+use Rattle.batch_import.specs.Walks.{HasFewRows, coming_count, rows_then}
 use Rattle.batch_import.specs.declared.fault.ImportFault.TheVariants as fault
 use Rattle.batch_import.specs.declared.fault.RowFault.{RowFault}
-use Rattle.batch_import.proofs.WalkLemmas.{coming_of-few}
 use Rattle.import_causes.specs.Causes.{Numbered}
 use Rattle.import_causes.specs.Pairs.{rows_named, with_named}
 use Rattle.import_causes.specs.Walks.{Advances, AreRanked, IsWalked}
@@ -40,10 +39,12 @@ fewer left next more row is (rest, was, now) =
 
 -- ---- the loop over the rows
 
-pub walked-start : (check : Bool) (raw name : List ℕ) (left : Left) → left ≡ Ok (coming_of check raw) → IsWalked check raw name [] 2 left
-walked-start check raw name left is = record {
+pub walked-start : (start : Left) (name : List ℕ) → HasFewRows start → IsWalked start name [] 2 start
+walked-start start name (coming, is, few) = record {
+  first = coming;
+  start_is = is;
   taken = [];
-  more = coming_of check raw;
+  more = coming;
   left_is = is;
   all = refl;
   numbered = refl;
@@ -51,12 +52,17 @@ walked-start check raw name left is = record {
   each = All-nil IsRow;
 }
 
-module _ (check : Bool) (raw name : List ℕ) (kept : List Numbered) (number : ℕ) (left : Left) (walked : IsWalked check raw name kept number left) where
-  pub taken-few : length walked.taken ≤ 4096
-  taken-few = omega (arith, coming_of-few check raw, ap (λ (c : Coming). length c.rows) walked.all, length-append walked.taken walked.more.rows)
+module _ (start : Left) (few : HasFewRows start) (name : List ℕ) (kept : List Numbered) (number : ℕ) (left : Left) (walked : IsWalked start name kept number left) where
+  same_start : (coming : Coming) → start ≡ Ok coming → coming ≡ walked.first
+  same_start coming is = let both : Ok coming ≡ Ok walked.first = sym is ∙ walked.start_is in cc
 
-  pub walked-more : (row : Row) (next : Left) → Advances walked.more (Some row) next → IsRow row → IsWalked check raw name (with_named name kept number row) (number + 1) next
+  pub taken-few : length walked.taken ≤ 4096
+  taken-few = omega (arith, few.2, ap (λ (c : Coming). length c.rows) (same_start few.0 few.1 ∙ walked.all), length-append walked.taken walked.more.rows)
+
+  pub walked-more : (row : Row) (next : Left) → Advances walked.more (Some row) next → IsRow row → IsWalked start name (with_named name kept number row) (number + 1) next
   walked-more row next (rest, is, now) ranged = record {
+    first = walked.first;
+    start_is = walked.start_is;
     taken = walked.taken ++ row ∷ [];
     more = rest;
     left_is = now;
@@ -68,9 +74,9 @@ module _ (check : Bool) (raw name : List ℕ) (kept : List Numbered) (number : �
   }
 
   -- all rows were read
-  pub walked-all : walked.more.rows ≡ [] → kept ≡ rows_named name (coming_of check raw).rows
-  walked-all none =
-      let all : (coming_of check raw).rows ≡ walked.taken = ap (λ (c : Coming). c.rows) walked.all ∙ ap (λ (rows : List Row). walked.taken ++ rows) none ∙ append-nil walked.taken in
+  pub walked-all : walked.more.rows ≡ [] → (coming : Coming) → start ≡ Ok coming → kept ≡ rows_named name coming.rows
+  walked-all none coming is =
+      let all : coming.rows ≡ walked.taken = ap (λ (c : Coming). c.rows) (same_start coming is ∙ walked.all) ∙ ap (λ (rows : List Row). walked.taken ++ rows) none ∙ append-nil walked.taken in
       walked.kept_are ∙ ap (rows_named name) (sym all)
 
   pub walked-ranked : AreRanked kept

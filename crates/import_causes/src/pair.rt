@@ -4,6 +4,7 @@ ghost use Rattle.std.specs.Prelude.{map};
 ghost use Rattle.std.specs.List.{find};
 ghost use Rattle.store_data.specs.Sequence.{IsProduct, IsRow};
 ghost use Rattle.batch_import.specs.Batch.{Coming, coming_of};
+ghost use Rattle.batch_import.specs.Walks.{HasFewRows};
 ghost use Rattle.import_causes.specs.Causes.{Numbered};
 ghost use Rattle.import_causes.specs.Pairs.{clash, differ, first_pair, overflow, partner};
 ghost use Rattle.import_causes.specs.Pairs.{record_fault, repeat, rows_named};
@@ -78,14 +79,30 @@ fn rows_named(
         (λ v. v.items ≡ rows_named name.now (coming_of product.now.check raw.now).rows) }
     ensures ranked { IfOk result (λ v. AreRanked v.items) }
 {
-    let mut stream = rows(alloc, raw, product);
     let mut kept = Vec::new(alloc);
+    add_named(&mut rows(alloc, raw, product), &mut kept, name)?;
+    Ok(kept)
+}
+
+// Adds the rows of the record `name` before the first faulty row of `stream` to `kept`, which is
+// empty. The prover is slow at a loop in the function that owns `stream`.
+fn add_named(
+    stream: &mut BatchRows<'_>,
+    kept: &mut Vec<NumberedRow>,
+    name: &[u8],
+) -> Result<(), AllocError>
+    requires few { HasFewRows stream.old }
+    requires empty { kept.old.items ≡ [] }
+    ensures value { OnOk result ((coming : Coming) → stream.old ≡ Ok coming
+        → kept.new.items ≡ rows_named name.now coming.rows) }
+    ensures ranked { OnOk result (AreRanked kept.new.items) }
+{
     let mut number = FIRST_DATA_ROW;
-    while let Some(row) = next_row(&mut stream)? {
-        push_named(&mut kept, number, &row, name)?;
+    while let Some(row) = next_row(stream)? {
+        push_named(kept, number, &row, name)?;
         number += 1;
     }
-    Ok(kept)
+    Ok(())
 }
 
 // Adds the row `row` with number `number` if it is a row of the record `name`.
