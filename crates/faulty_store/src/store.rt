@@ -258,11 +258,14 @@ impl JobStore for FaultyStore {
 
 // Closing the store takes a step of the device, like any other call.
 impl ServerStore for FaultyStore {
-    ghost use Rattle.std.specs.Prelude.{◌≡◌, false};
+    ghost use Rattle.std.specs.Prelude.{◌≡◌, false, ⊤};
     ghost use Rattle.faulty_store.specs.Faulty.{IsAnswered, struck};
 
     ghost closed = { λ store. (store.device.is_shut ≡ false)
         × IsAnswered (struck store.device.plan) };
+
+    // The plan of a test may let any close fail.
+    ghost unclosed = { λ _ _. ⊤ };
 
     fn fault_counts(&self) -> FaultCounts {
         FaultCounts {

@@ -17,6 +17,6 @@ returns g c =
         reports = c.close_report.ensures.reports;
         cause = c.close_report.ensures.cause;
         faults = c.close_report.ensures.faults;
-        ends = (c.finish.result, c.finish.ensures.closed, subst (λ end. c.end_of_close.result ≡ end_of_close end c.finish.result) ended c.end_of_close.ensures);
+        ends = (c.finish.result, c.finish.ensures.closed, c.finish.ensures.fault, subst (λ end. c.end_of_close.result ≡ end_of_close end c.finish.result) ended c.end_of_close.ensures);
       },
     )
