@@ -14,7 +14,7 @@ pub struct FaultCounts {
 /// A store that a server uses, and closes at the end. It counts its faults and its kept replies.
 pub trait ServerStore: JobStore {
     ghost use Rattle.std.specs.Prelude.{◌≡◌, IfErr, OnOk, length};
-    ghost use Rattle.job_facts.specs.Store.{CountsFaults, Reads, Stays};
+    ghost use Rattle.job_facts.specs.Store.{LeavesContents, Reads};
     ghost use Rattle.job_facts.specs.Reopening.{counts_of};
     ghost use Rattle.job_facts.specs.declared.store.StoreFault.{StoreFault as Fault};
 
@@ -30,10 +30,9 @@ pub trait ServerStore: JobStore {
 
     /// Returns the number of kept replies.
     fn reply_count(&mut self) -> Result<u64, StoreFault>
-        ensures stays { Stays (Self.state self.old) (Self.state self.new) }
         ensures value { Reads (Self.state self.old) (Self.state self.new) result
             (λ c answer. answer ≡ length c.kept) }
-        ensures faults { CountsFaults (Self.state self.old) (Self.state self.new) result };
+        ensures leaves { LeavesContents (Self.state self.old) (Self.state self.new) result };
 
     /// Closes the store. After an error, everything committed before is still stored.
     ///
