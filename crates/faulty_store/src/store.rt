@@ -21,7 +21,7 @@ impl FaultyStore {
     ghost use Rattle.std.specs.Prelude.{◌≡◌, false, OnOk, Some};
     ghost use Rattle.job_facts.specs.Contents.{AreSound, Contents, no_contents};
     ghost use Rattle.job_facts.specs.Reopening.{OpensWith};
-    ghost use Rattle.job_facts.specs.Store.{CountsFaults, IsHonest, Stays};
+    ghost use Rattle.job_facts.specs.Store.{IsHonest, LeavesContents};
     ghost use Rattle.list_store.specs.Lists.{contents};
     ghost use Rattle.faulty_store.specs.Faulty.{IsAnswered, state, struck};
 
@@ -74,8 +74,7 @@ impl FaultyStore {
     // Takes a step of the device, and returns its fault, if it reports one. If the device loses all
     // data, the lists are empty afterwards and the call continues.
     fn turn(&mut self) -> Result<(), StoreFault>
-        ensures stays { Stays (state self.old) (state self.new) }
-        ensures faults { CountsFaults (state self.old) (state self.new) result }
+        ensures leaves { LeavesContents (state self.old) (state self.new) result }
         ensures open { OnOk result (self.old.device.is_shut ≡ false) }
         ensures answered { OnOk result (IsAnswered (struck self.old.device.plan)) }
         ensures same { IsHonest (state self.new)
@@ -258,11 +257,14 @@ impl JobStore for FaultyStore {
 
 // Closing the store takes a step of the device, like any other call.
 impl ServerStore for FaultyStore {
-    ghost use Rattle.std.specs.Prelude.{◌≡◌, false};
+    ghost use Rattle.std.specs.Prelude.{◌≡◌, false, ⊤};
     ghost use Rattle.faulty_store.specs.Faulty.{IsAnswered, struck};
 
     ghost closed = { λ store. (store.device.is_shut ≡ false)
         × IsAnswered (struck store.device.plan) };
+
+    // The plan of a test may let any close fail.
+    ghost unclosed = { λ _ _. ⊤ };
 
     fn fault_counts(&self) -> FaultCounts {
         FaultCounts {

@@ -225,14 +225,16 @@ pub(crate) fn serial_at(value: &Value, key: &str) -> Option<u64>
 }
 
 pub(crate) fn session_in(value: &Value) -> Option<u64>
-    ensures { result ≡ session_in (view value.now) }
+    ensures value { result ≡ session_in (view value.now) }
+    ensures ranged { IfSome result (λ n. n ≤ MOST_SERIAL) }
 {
     number_within(value, "session", 1, MOST_SERIAL)
 }
 
 #[tactic(auto, unfolding(crate::specs::Requests::word_in))]
 pub(crate) fn word_in(value: &Value) -> Option<u16>
-    ensures { result ≡ word_in (view value.now) }
+    ensures value { result ≡ word_in (view value.now) }
+    ensures ranged { IfSome result (λ sw. sw < 2 ^ 16) }
 {
     status_word(text_at(value, "sw")?.as_bytes())
 }

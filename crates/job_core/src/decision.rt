@@ -10,7 +10,7 @@ mod sessions;
 ghost use Rattle.std.specs.Prelude.{◌≡◌};
 ghost use Rattle.job_facts.specs.Requests.{IsRequest};
 ghost use Rattle.job_facts.specs.Sound.{Decides};
-ghost use Rattle.job_facts.specs.Store.{CountsFaults, Reads, Stays};
+ghost use Rattle.job_facts.specs.Store.{LeavesContents, Reads};
 ghost use Rattle.job_facts.specs.declared.change.Change.TheVariants.{Nothing};
 ghost use Rattle.job_facts.specs.declared.reply.Reply.TheVariants.{Refused};
 
@@ -35,10 +35,9 @@ pub fn decide<'a, S: JobStore>(
     request: &'a Request,
 ) -> Result<(Reply, Change<'a>), StoreFault>
     requires { IsRequest request.now }
-    ensures stays { Stays (S.state store.old) (S.state store.new) }
     ensures value { Reads (S.state store.old) (S.state store.new) result
         (λ c answer. Decides c.facts client.now request.now answer.0 answer.1) }
-    ensures faults { CountsFaults (S.state store.old) (S.state store.new) result }
+    ensures leaves { LeavesContents (S.state store.old) (S.state store.new) result }
 {
     match request {
         Request::Product { product } => products::product(store, client, product),

@@ -14,15 +14,17 @@ pub record IsLotRange (l : Lot) : Type 0 where
   pub most : l.count ≤ 1000000
   pub range : l.first + l.count ≤ 10 ^ 18
 
+-- The numbers of the request are in their ranges: serials and session numbers have at most 18
+-- digits, indices have 32 bits and status words 16.
 abbrev pub IsRequest : Request → Type 0
 IsRequest (request.Product p) = IsProduct p
 IsRequest (request.Lot l) = IsLotRange l
 IsRequest (request.Import b p raw) = ⊤
-IsRequest (request.Open b blank) = ⊤
-IsRequest (request.Answer s k sw) = ⊤
-IsRequest (request.Abort s) = ⊤
+IsRequest (request.Open b blank) = blank < 10 ^ 18
+IsRequest (request.Answer s k sw) = (s < 10 ^ 18) × (k < 2 ^ 32) × (sw < 2 ^ 16)
+IsRequest (request.Abort s) = s < 10 ^ 18
 IsRequest request.Reset = ⊤
-IsRequest (request.Discard blank) = ⊤
+IsRequest (request.Discard blank) = blank < 10 ^ 18
 IsRequest (request.Remake b r) = ⊤
 IsRequest (request.Withdraw b r) = ⊤
 IsRequest (request.Close b) = ⊤

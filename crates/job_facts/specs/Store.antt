@@ -70,6 +70,12 @@ pub record CountsFaults {T : Type 0} (old new : State) (result : Result T StoreF
   pub failed : new.failed ≡ failed_after result old.failed
   pub full : new.full ≡ full_after result old.full
 
+-- The contents are unchanged, and a count of faults increases by one if the call returns this
+-- fault.
+pub record LeavesContents {T : Type 0} (old new : State) (result : Result T StoreFault) : Type 0 where
+  pub stays : Stays old new
+  pub faults : CountsFaults old new result
+
 -- If the call succeeds, the contents become `after` of the old contents. If it fails, they are
 -- unchanged.
 pub record Commits (old new : State) (result : Result (Unit {0}) StoreFault) (Owed : Contents → Type 0) (after : Contents → Contents) : Type 0 where

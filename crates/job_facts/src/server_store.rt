@@ -13,12 +13,16 @@ pub struct FaultCounts {
 
 /// A store that a server uses, and closes at the end. It counts its faults and its kept replies.
 pub trait ServerStore: JobStore {
-    ghost use Rattle.std.specs.Prelude.{◌≡◌, OnOk, length};
-    ghost use Rattle.job_facts.specs.Store.{CountsFaults, Reads, Stays};
+    ghost use Rattle.std.specs.Prelude.{◌≡◌, IfErr, OnOk, length};
+    ghost use Rattle.job_facts.specs.Store.{LeavesContents, Reads};
     ghost use Rattle.job_facts.specs.Reopening.{counts_of};
+    ghost use Rattle.job_facts.specs.declared.store.StoreFault.{StoreFault as Fault};
 
     /// The condition that is true of a store after it was closed without a fault.
     ghost closed: { Self → Type 0 };
+
+    /// The condition under which the close of a store may return a fault.
+    ghost unclosed: { Self → Fault → Type 0 };
 
     /// Returns the numbers of faults since the store was opened.
     fn fault_counts(&self) -> FaultCounts
@@ -26,10 +30,9 @@ pub trait ServerStore: JobStore {
 
     /// Returns the number of kept replies.
     fn reply_count(&mut self) -> Result<u64, StoreFault>
-        ensures stays { Stays (Self.state self.old) (Self.state self.new) }
         ensures value { Reads (Self.state self.old) (Self.state self.new) result
             (λ c answer. answer ≡ length c.kept) }
-        ensures faults { CountsFaults (Self.state self.old) (Self.state self.new) result };
+        ensures leaves { LeavesContents (Self.state self.old) (Self.state self.new) result };
 
     /// Closes the store. After an error, everything committed before is still stored.
     ///
@@ -42,5 +45,6 @@ pub trait ServerStore: JobStore {
     /// - `Device` if the device fails.
     /// - `Full` if the device is full.
     fn finish(self) -> Result<(), StoreFault>
-        ensures { OnOk result (closed self) };
+        ensures closed { OnOk result (closed self) }
+        ensures fault { IfErr result (λ fault. unclosed self fault) };
 }

@@ -57,7 +57,7 @@ pub trait JobStore {
     ghost use Rattle.job_facts.specs.States.{any_overlaps, first_waiting, is_batch_finished};
     ghost use Rattle.job_facts.specs.States.{is_charged, lot_named, lot_of, product_named};
     ghost use Rattle.job_facts.specs.States.{record_state_of, running_session};
-    ghost use Rattle.job_facts.specs.Store.{Commits, CountsFaults, Reads, State, Stays};
+    ghost use Rattle.job_facts.specs.Store.{Commits, CountsFaults, LeavesContents, Reads, State};
 
     /// The contents of the store, its counters, and the contents that an open after a crash may
     /// find.
@@ -65,97 +65,84 @@ pub trait JobStore {
 
     /// Returns the product with the name `code`.
     fn product(&mut self, code: &Name) -> Result<Option<Product>, StoreFault>
-        ensures stays { Stays (state self.old) (state self.new) }
         ensures value { Reads (state self.old) (state self.new) result
             (λ c answer. answer ≡ product_named c.facts.products code.now) }
         ensures ranged { IfOk result (λ answer. IfSome answer IsProduct) }
-        ensures faults { CountsFaults (state self.old) (state self.new) result };
+        ensures leaves { LeavesContents (state self.old) (state self.new) result };
 
     /// Returns the lot with the name `name`.
     fn lot(&mut self, name: &Name) -> Result<Option<Lot>, StoreFault>
-        ensures stays { Stays (state self.old) (state self.new) }
         ensures value { Reads (state self.old) (state self.new) result
             (λ c answer. answer ≡ lot_named c.facts.lots name.now) }
-        ensures faults { CountsFaults (state self.old) (state self.new) result };
+        ensures leaves { LeavesContents (state self.old) (state self.new) result };
 
     /// Returns the lot that contains `blank`.
     fn lot_of(&mut self, blank: u64) -> Result<Option<Lot>, StoreFault>
-        ensures stays { Stays (state self.old) (state self.new) }
         ensures value { Reads (state self.old) (state self.new) result
             (λ c answer. answer ≡ lot_of c.facts.lots blank) }
-        ensures faults { CountsFaults (state self.old) (state self.new) result };
+        ensures leaves { LeavesContents (state self.old) (state self.new) result };
 
     /// Returns `true` if a lot contains one of the `count` serials that start with `first`.
     fn overlaps(&mut self, first: u64, count: u32) -> Result<bool, StoreFault>
-        ensures stays { Stays (state self.old) (state self.new) }
         ensures value { Reads (state self.old) (state self.new) result
             (λ c answer. answer ≡ any_overlaps c.facts.lots first count) }
-        ensures faults { CountsFaults (state self.old) (state self.new) result };
+        ensures leaves { LeavesContents (state self.old) (state self.new) result };
 
     /// Returns the batch with the name `name`.
     fn batch(&mut self, name: &Name) -> Result<Option<BatchRow>, StoreFault>
-        ensures stays { Stays (state self.old) (state self.new) }
         ensures value { Reads (state self.old) (state self.new) result
             (λ c answer. answer ≡ batch_row_of c.facts name.now) }
-        ensures faults { CountsFaults (state self.old) (state self.new) result };
+        ensures leaves { LeavesContents (state self.old) (state self.new) result };
 
     /// Returns the numbers of rows and records of the batch `name`.
     fn batch_size(&mut self, name: &Name) -> Result<Option<BatchSize>, StoreFault>
-        ensures stays { Stays (state self.old) (state self.new) }
         ensures value { Reads (state self.old) (state self.new) result
             (λ c answer. answer ≡ batch_size_of c.facts name.now) }
-        ensures faults { CountsFaults (state self.old) (state self.new) result };
+        ensures leaves { LeavesContents (state self.old) (state self.new) result };
 
     /// Returns `true` if the batch `name` was imported from exactly the bytes `raw`.
     fn batch_has(&mut self, name: &Name, raw: &[u8]) -> Result<bool, StoreFault>
-        ensures stays { Stays (state self.old) (state self.new) }
         ensures value { Reads (state self.old) (state self.new) result
             (λ c answer. answer ≡ batch_has c.facts name.now raw.now) }
-        ensures faults { CountsFaults (state self.old) (state self.new) result };
+        ensures leaves { LeavesContents (state self.old) (state self.new) result };
 
     /// Returns the state of the record `rec`, or `None` if the batch doesn't contain it.
     fn record_state(&mut self, batch: &Name, rec: &Name) -> Result<Option<RecordState>, StoreFault>
-        ensures stays { Stays (state self.old) (state self.new) }
         ensures value { Reads (state self.old) (state self.new) result
             (λ c answer. answer ≡ record_state_of c.facts batch.now rec.now) }
-        ensures faults { CountsFaults (state self.old) (state self.new) result };
+        ensures leaves { LeavesContents (state self.old) (state self.new) result };
 
     /// Returns the first waiting record of `batch`, in file order.
     fn first_waiting(&mut self, batch: &Name) -> Result<Option<Name>, StoreFault>
-        ensures stays { Stays (state self.old) (state self.new) }
         ensures value { Reads (state self.old) (state self.new) result
             (λ c answer. answer ≡ first_waiting c.facts batch.now) }
-        ensures faults { CountsFaults (state self.old) (state self.new) result };
+        ensures leaves { LeavesContents (state self.old) (state self.new) result };
 
     /// Returns `true` if every record of `batch` is good or withdrawn.
     fn is_finished(&mut self, batch: &Name) -> Result<bool, StoreFault>
-        ensures stays { Stays (state self.old) (state self.new) }
         ensures value { Reads (state self.old) (state self.new) result
             (λ c answer. answer ≡ is_batch_finished c.facts batch.now) }
-        ensures faults { CountsFaults (state self.old) (state self.new) result };
+        ensures leaves { LeavesContents (state self.old) (state self.new) result };
 
     /// Returns the session with the number `session`.
     fn session(&mut self, session: u64) -> Result<Option<SessionRow>, StoreFault>
-        ensures stays { Stays (state self.old) (state self.new) }
         ensures value { Reads (state self.old) (state self.new) result
             (λ c answer. answer ≡ session_row_of c.facts session) }
         ensures ranged { IfOk result
             (λ answer. IfSome answer (λ (row : SessionRowValue). IsCursor row.cursor)) }
-        ensures faults { CountsFaults (state self.old) (state self.new) result };
+        ensures leaves { LeavesContents (state self.old) (state self.new) result };
 
     /// Returns the number of the running session of `machine`.
     fn running_session(&mut self, machine: &Name) -> Result<Option<u64>, StoreFault>
-        ensures stays { Stays (state self.old) (state self.new) }
         ensures value { Reads (state self.old) (state self.new) result
             (λ c answer. answer ≡ running_session c.facts machine.now) }
-        ensures faults { CountsFaults (state self.old) (state self.new) result };
+        ensures leaves { LeavesContents (state self.old) (state self.new) result };
 
     /// Returns `true` if `blank` is charged by an `open` or a `discard`.
     fn is_charged(&mut self, blank: u64) -> Result<bool, StoreFault>
-        ensures stays { Stays (state self.old) (state self.new) }
         ensures value { Reads (state self.old) (state self.new) result
             (λ c answer. answer ≡ is_charged c.facts blank) }
-        ensures faults { CountsFaults (state self.old) (state self.new) result };
+        ensures leaves { LeavesContents (state self.old) (state self.new) result };
 
     /// Returns segment `segment` of application `app` of the record `rec`, or `None` if the record
     /// doesn't have it. Both numbers start at 0.
@@ -166,76 +153,66 @@ pub trait JobStore {
         app: u16,
         segment: u16,
     ) -> Result<Option<SegmentRow>, StoreFault>
-        ensures stays { Stays (state self.old) (state self.new) }
         ensures value { Reads (state self.old) (state self.new) result
             (λ c answer. answer ≡ segment_row_of c.facts batch.now rec.now app segment) }
         ensures ranged { IfOk result
             (λ answer. IfSome answer (λ (row : SegmentRowValue). row.low ≤ 31)) }
-        ensures faults { CountsFaults (state self.old) (state self.new) result };
+        ensures leaves { LeavesContents (state self.old) (state self.new) result };
 
     /// Returns the number of products.
     fn product_count(&mut self) -> Result<u64, StoreFault>
-        ensures stays { Stays (state self.old) (state self.new) }
         ensures value { Reads (state self.old) (state self.new) result
             (λ c answer. answer ≡ length c.facts.products) }
-        ensures faults { CountsFaults (state self.old) (state self.new) result };
+        ensures leaves { LeavesContents (state self.old) (state self.new) result };
 
     /// Returns the number of lots.
     fn lot_count(&mut self) -> Result<u64, StoreFault>
-        ensures stays { Stays (state self.old) (state self.new) }
         ensures value { Reads (state self.old) (state self.new) result
             (λ c answer. answer ≡ length c.facts.lots) }
-        ensures faults { CountsFaults (state self.old) (state self.new) result };
+        ensures leaves { LeavesContents (state self.old) (state self.new) result };
 
     /// Returns the number of batches.
     fn batch_count(&mut self) -> Result<u64, StoreFault>
-        ensures stays { Stays (state self.old) (state self.new) }
         ensures value { Reads (state self.old) (state self.new) result
             (λ c answer. answer ≡ length c.facts.batches) }
-        ensures faults { CountsFaults (state self.old) (state self.new) result };
+        ensures leaves { LeavesContents (state self.old) (state self.new) result };
 
     /// Returns the number of sessions.
     fn session_count(&mut self) -> Result<u64, StoreFault>
-        ensures stays { Stays (state self.old) (state self.new) }
         ensures value { Reads (state self.old) (state self.new) result
             (λ c answer. answer ≡ length c.facts.sessions) }
         ensures ranged { IfOk result (λ answer. answer < 2 ^ 63) }
-        ensures faults { CountsFaults (state self.old) (state self.new) result };
+        ensures leaves { LeavesContents (state self.old) (state self.new) result };
 
     /// Returns the counters of `batch`, which are all 0 if the batch doesn't exist.
     fn batch_totals(&mut self, batch: &Name) -> Result<BatchTotals, StoreFault>
-        ensures stays { Stays (state self.old) (state self.new) }
         ensures value { Reads (state self.old) (state self.new) result
             (λ c answer. answer ≡ batch_totals c.facts batch.now) }
-        ensures faults { CountsFaults (state self.old) (state self.new) result };
+        ensures leaves { LeavesContents (state self.old) (state self.new) result };
 
     /// Returns a line for each record of `batch`, in file order.
     fn record_lines(&mut self, batch: &Name) -> Result<Vec<RecordLine>, StoreFault>
-        ensures stays { Stays (state self.old) (state self.new) }
         ensures value { Reads (state self.old) (state self.new) result
             (λ c lines. lines.items ≡ record_lines c.facts batch.now) }
-        ensures faults { CountsFaults (state self.old) (state self.new) result };
+        ensures leaves { LeavesContents (state self.old) (state self.new) result };
 
     /// Returns the counters of the blanks of `product`.
     fn blank_totals(&mut self, product: &Name) -> Result<BlankTotals, StoreFault>
-        ensures stays { Stays (state self.old) (state self.new) }
         ensures value { Reads (state self.old) (state self.new) result
             (λ c answer. answer ≡ blank_totals c.facts product.now) }
-        ensures faults { CountsFaults (state self.old) (state self.new) result };
+        ensures leaves { LeavesContents (state self.old) (state self.new) result };
 
     /// Returns the reply that is kept under the number `number` of `client`.
     fn kept(&mut self, client: &Name, number: u64) -> Result<Option<KeptReply>, StoreFault>
-        ensures stays { Stays (state self.old) (state self.new) }
         ensures value { Reads (state self.old) (state self.new) result
             (λ c answer. answer ≡ option_map reply_of_entry (entry_of c.kept client.now number)) }
-        ensures faults { CountsFaults (state self.old) (state self.new) result };
+        ensures leaves { LeavesContents (state self.old) (state self.new) result };
 
     /// Returns the release mark of `client`, or 0 if it has released nothing.
     fn mark(&mut self, client: &Name) -> Result<u64, StoreFault>
-        ensures stays { Stays (state self.old) (state self.new) }
         ensures value { Reads (state self.old) (state self.new) result
             (λ c answer. answer ≡ mark_of c.marks client.now) }
-        ensures faults { CountsFaults (state self.old) (state self.new) result };
+        ensures leaves { LeavesContents (state self.old) (state self.new) result };
 
     /// Stores a change and the reply to its request in one transaction.
     ///

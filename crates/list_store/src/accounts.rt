@@ -1,13 +1,13 @@
 //! Computes the accounts of batches, records and blanks.
-ghost use Rattle.std.specs.Prelude.{◌≡◌, ◌&&◌, IfErr, IfOk, bytes_eq, count_by, filter, find};
+ghost use Rattle.std.specs.Prelude.{◌≡◌, ◌&&◌, bytes_eq, count_by, filter, find};
 ghost use Rattle.std.specs.Prelude.{length, map, option_map, sum_by};
-ghost use Rattle.job_facts.specs.declared.store.StoreFault.TheVariants.{Memory};
 ghost use Rattle.job_facts.specs.declared.facts.Lot.{Lot as LotValue};
 ghost use Rattle.job_facts.specs.Accounts.{batch_totals, blank_states, blank_totals, count_records};
 ghost use Rattle.job_facts.specs.Accounts.{is_blank_of, is_lot_of, record_line, record_lines};
 ghost use Rattle.job_facts.specs.Accounts.{record_states, session_states};
 ghost use Rattle.job_facts.specs.Facts.{Session};
 ghost use Rattle.job_facts.specs.States.{is_good, lot_of, record_state, session_state};
+ghost use Rattle.list_store.specs.Results.{GivesOrMemory};
 ghost use Rattle.list_store.specs.Sessions.{lots_for, sessions_of_record};
 
 use crate::lists::{FactLists, KeptSession};
@@ -29,9 +29,8 @@ fn record_states(
     batch: &Name,
     names: &[Name],
 ) -> Result<Vec<RecordState>, StoreFault>
-    ensures value { IfOk result
+    ensures { GivesOrMemory result
         (λ states. states.items ≡ map (record_state facts.now batch.now) names.now) }
-    ensures cause { IfErr result (λ fault. fault ≡ Memory) }
 {
     let mut states = Vec::new(alloc);
     for rec in names {
@@ -47,10 +46,9 @@ fn session_states(
     sessions: &[KeptSession],
     batch: &Name,
 ) -> Result<Vec<SessionState>, StoreFault>
-    ensures value { IfOk result (λ states. states.items
+    ensures { GivesOrMemory result (λ states. states.items
         ≡ map (session_state facts.now)
         (filter (λ (s : Session). bytes_eq s.batch batch.now) sessions.now)) }
-    ensures cause { IfErr result (λ fault. fault ≡ Memory) }
 {
     let mut states = Vec::new(alloc);
     for session in sessions {
@@ -75,8 +73,7 @@ pub(crate) fn batch_totals(
     facts: &FactLists,
     batch: &Name,
 ) -> Result<BatchTotals, StoreFault>
-    ensures value { IfOk result (λ totals. totals ≡ batch_totals facts.now batch.now) }
-    ensures cause { IfErr result (λ fault. fault ≡ Memory) }
+    ensures { GivesOrMemory result (λ totals. totals ≡ batch_totals facts.now batch.now) }
 {
     let names = record_names(alloc, facts, batch)?;
     let records = record_states(alloc, facts, batch, &names)?;
@@ -103,11 +100,10 @@ fn good_blank(
     batch: &Name,
     rec: &Name,
 ) -> Result<Option<u64>, StoreFault>
-    ensures value { IfOk result (λ blank. blank
+    ensures { GivesOrMemory result (λ blank. blank
         ≡ option_map (λ (s : Session). s.blank)
         (find (λ s. is_good (session_state facts.now s))
         (sessions_of_record sessions.now batch.now rec.now))) }
-    ensures cause { IfErr result (λ fault. fault ≡ Memory) }
 {
     for session in sessions {
         if session.batch == *batch
@@ -126,8 +122,7 @@ fn record_line(
     batch: &Name,
     rec: &Name,
 ) -> Result<RecordLine, StoreFault>
-    ensures value { IfOk result (λ line. line ≡ record_line facts.now batch.now rec.now) }
-    ensures cause { IfErr result (λ fault. fault ≡ Memory) }
+    ensures { GivesOrMemory result (λ line. line ≡ record_line facts.now batch.now rec.now) }
 {
     let states = states_among(alloc, facts, &facts.sessions, batch, rec)?;
     Ok(RecordLine {
@@ -145,8 +140,7 @@ pub(crate) fn record_lines(
     facts: &FactLists,
     batch: &Name,
 ) -> Result<Vec<RecordLine>, StoreFault>
-    ensures value { IfOk result (λ lines. lines.items ≡ record_lines facts.now batch.now) }
-    ensures cause { IfErr result (λ fault. fault ≡ Memory) }
+    ensures { GivesOrMemory result (λ lines. lines.items ≡ record_lines facts.now batch.now) }
 {
     let names = record_names(alloc, facts, batch)?;
     let mut lines = Vec::new(alloc);
@@ -174,10 +168,9 @@ fn blank_states(
     sessions: &[KeptSession],
     product: &Name,
 ) -> Result<Vec<SessionState>, StoreFault>
-    ensures value { IfOk result (λ states. states.items
+    ensures { GivesOrMemory result (λ states. states.items
         ≡ map (session_state facts.now)
         (filter (λ (s : Session). is_blank_of facts.now product.now s.blank) sessions.now)) }
-    ensures cause { IfErr result (λ fault. fault ≡ Memory) }
 {
     let mut states = Vec::new(alloc);
     for session in sessions {
@@ -207,9 +200,8 @@ fn count_lots(lots: &[Lot], product: &Name) -> u64
 // Returns the number of blanks in the lots of `product`. A sum that exceeds 64 bits returns
 // `Memory`. Sound facts have no such sum.
 fn sum_lots(lots: &[Lot], product: &Name) -> Result<u64, StoreFault>
-    ensures value { IfOk result
+    ensures { GivesOrMemory result
         (λ total. total ≡ sum_by (λ (l : LotValue). l.count) (lots_for lots.now product.now)) }
-    ensures cause { IfErr result (λ fault. fault ≡ Memory) }
 {
     let mut total: u64 = 0;
     for lot in lots {
@@ -229,8 +221,7 @@ pub(crate) fn blank_totals(
     facts: &FactLists,
     product: &Name,
 ) -> Result<BlankTotals, StoreFault>
-    ensures value { IfOk result (λ totals. totals ≡ blank_totals facts.now product.now) }
-    ensures cause { IfErr result (λ fault. fault ≡ Memory) }
+    ensures { GivesOrMemory result (λ totals. totals ≡ blank_totals facts.now product.now) }
 {
     let states = blank_states(alloc, facts, &facts.sessions, product)?;
     Ok(BlankTotals {

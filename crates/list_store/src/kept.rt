@@ -1,7 +1,7 @@
 //! Copies and finds kept replies.
-ghost use Rattle.std.specs.Prelude.{◌≡◌, IfOk, IfErr, option_map};
-ghost use Rattle.job_facts.specs.declared.store.StoreFault.TheVariants.{Memory};
+ghost use Rattle.std.specs.Prelude.{◌≡◌, option_map};
 ghost use Rattle.job_facts.specs.Contents.{entry_of, reply_of_entry};
+ghost use Rattle.list_store.specs.Results.{GivesOrMemory};
 
 use crate::lists::KeptRow;
 use job_facts::{KeptReply, StoreFault};
@@ -15,9 +15,8 @@ pub(crate) fn reply_of(
     client: &Name,
     number: u64,
 ) -> Result<Option<KeptReply>, StoreFault>
-    ensures value { IfOk result
+    ensures { GivesOrMemory result
         (λ answer. answer ≡ option_map reply_of_entry (entry_of rows.now client.now number)) }
-    ensures cause { IfErr result (λ fault. fault ≡ Memory) }
 {
     for row in rows {
         if row.client == *client && row.number == number {
@@ -40,7 +39,7 @@ pub(crate) fn row(
     status: u16,
     body: &[u8],
 ) -> Result<KeptRow, StoreFault>
-    ensures value { IfOk result
+    ensures { GivesOrMemory result
         (λ row. row ≡ record {
           client = client.now;
           number = number;
@@ -48,7 +47,6 @@ pub(crate) fn row(
           status = status;
           body = body.now;
         }) }
-    ensures cause { IfErr result (λ fault. fault ≡ Memory) }
 {
     Ok(KeptRow {
         client: *client,
@@ -60,8 +58,7 @@ pub(crate) fn row(
 }
 
 pub(crate) fn copied(alloc: Global, bytes: &[u8]) -> Result<Bytes, StoreFault>
-    ensures value { IfOk result (λ copy. copy ≡ bytes.now) }
-    ensures cause { IfErr result (λ fault. fault ≡ Memory) }
+    ensures { GivesOrMemory result (λ copy. copy ≡ bytes.now) }
 {
     Ok(Bytes::from_vec(bytes.to_vec(alloc)?))
 }

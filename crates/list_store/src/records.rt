@@ -10,6 +10,7 @@ ghost use Rattle.job_facts.specs.declared.store.StoreFault.TheVariants.{Memory};
 ghost use Rattle.job_facts.specs.Rows.{batch_has, batch_row_of, batch_size_of};
 ghost use Rattle.job_facts.specs.States.{is_closed, plan_for, records_named, records_of, rows_of};
 ghost use Rattle.job_facts.specs.States.{rows_of_record, rows_or_none};
+ghost use Rattle.list_store.specs.Results.{GivesOrMemory};
 
 use crate::lists::FactLists;
 use crate::names::{batch_named, product_named};
@@ -80,8 +81,7 @@ pub(crate) fn batch_size(
     facts: &FactLists,
     name: &Name,
 ) -> Result<Option<BatchSize>, StoreFault>
-    ensures value { IfOk result (λ size. size ≡ batch_size_of facts.now name.now) }
-    ensures cause { IfErr result (λ fault. fault ≡ Memory) }
+    ensures { GivesOrMemory result (λ size. size ≡ batch_size_of facts.now name.now) }
 {
     let Some(batch) = batch_named(&facts.batches, name) else {
         return Ok(None);
@@ -112,8 +112,7 @@ pub(crate) fn batch_has(facts: &FactLists, name: &Name, raw: &[u8]) -> bool
 
 // Returns the rows of the record `rec`.
 fn rows_of_record(alloc: Global, rows: Vec<Row>, rec: &Name) -> Result<Vec<Row>, StoreFault>
-    ensures value { IfOk result (λ kept. kept.items ≡ rows_of_record rows.items rec.now) }
-    ensures cause { IfErr result (λ fault. fault ≡ Memory) }
+    ensures { GivesOrMemory result (λ kept. kept.items ≡ rows_of_record rows.items rec.now) }
 {
     let mut kept = Vec::new(alloc);
     for row in rows {
@@ -132,8 +131,7 @@ pub(crate) fn record_rows(
     batch: &Name,
     rec: &Name,
 ) -> Result<Option<RecordRows>, StoreFault>
-    ensures value { IfOk result (λ rows. rows ≡ plan_for facts.now batch.now rec.now) }
-    ensures cause { IfErr result (λ fault. fault ≡ Memory) }
+    ensures { GivesOrMemory result (λ rows. rows ≡ plan_for facts.now batch.now rec.now) }
 {
     let Some(kept) = batch_named(&facts.batches, batch) else {
         return Ok(None);
@@ -148,9 +146,8 @@ pub(crate) fn record_rows(
 
 // Returns the names of the records, in the order of their first rows.
 fn names(alloc: Global, rows: &[Row]) -> Result<Vec<Name>, StoreFault>
-    ensures value { IfOk result
+    ensures { GivesOrMemory result
         (λ names. names.items ≡ first_appearances (map (λ (row : RowValue). row.rec) rows.now)) }
-    ensures cause { IfErr result (λ fault. fault ≡ Memory) }
 {
     let mut names = Vec::new(alloc);
     for row in rows {
@@ -176,8 +173,7 @@ pub(crate) fn record_names(
     facts: &FactLists,
     batch: &Name,
 ) -> Result<Vec<Name>, StoreFault>
-    ensures value { IfOk result (λ names. names.items ≡ records_named facts.now batch.now) }
-    ensures cause { IfErr result (λ fault. fault ≡ Memory) }
+    ensures { GivesOrMemory result (λ names. names.items ≡ records_named facts.now batch.now) }
 {
     let Some(kept) = batch_named(&facts.batches, batch) else {
         return Ok(Vec::new(alloc));

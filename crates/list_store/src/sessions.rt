@@ -8,6 +8,7 @@ ghost use Rattle.job_facts.specs.declared.store.StoreFault.TheVariants.{Memory};
 ghost use Rattle.job_facts.specs.Rows.{session_row_of};
 ghost use Rattle.job_facts.specs.States.{running_session, session_numbered, session_state};
 ghost use Rattle.job_facts.specs.States.{state_with};
+ghost use Rattle.list_store.specs.Results.{GivesOrMemory};
 ghost use Rattle.list_store.specs.Sessions.{cursor_after};
 
 use crate::cursors::{cursor_at, ends_at, going, last_stops};
@@ -75,8 +76,7 @@ pub(crate) fn session_state(
     facts: &FactLists,
     session: &KeptSession,
 ) -> Result<SessionState, StoreFault>
-    ensures value { IfOk result (λ state. state ≡ session_state facts.now session.now) }
-    ensures cause { IfErr result (λ fault. fault ≡ Memory) }
+    ensures { GivesOrMemory result (λ state. state ≡ session_state facts.now session.now) }
 {
     let rows = record_rows(alloc, facts, &session.batch, &session.rec)?;
     let plan = plan_or_none(alloc, &rows)?;
@@ -117,8 +117,7 @@ pub(crate) fn running_session(
     facts: &FactLists,
     machine: &Name,
 ) -> Result<Option<u64>, StoreFault>
-    ensures value { IfOk result (λ number. number ≡ running_session facts.now machine.now) }
-    ensures cause { IfErr result (λ fault. fault ≡ Memory) }
+    ensures { GivesOrMemory result (λ number. number ≡ running_session facts.now machine.now) }
 {
     for (place, session) in facts.sessions.iter().enumerate() {
         if session.machine == *machine

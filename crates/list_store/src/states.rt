@@ -1,13 +1,13 @@
 //! Computes the states of records.
-ghost use Rattle.std.specs.Prelude.{◌≡◌, ◌&&◌, IfErr, IfOk, count_by, filter};
+ghost use Rattle.std.specs.Prelude.{◌≡◌, ◌&&◌, count_by, filter};
 ghost use Rattle.std.specs.Prelude.{map};
 ghost use Rattle.std.specs.List.{list_any};
-ghost use Rattle.job_facts.specs.declared.store.StoreFault.TheVariants.{Memory};
 ghost use Rattle.job_facts.specs.Accounts.{count_sessions};
 ghost use Rattle.list_store.specs.Sessions.{sessions_of_record};
 ghost use Rattle.job_facts.specs.States.{first_waiting, is_batch_finished, is_record};
 ghost use Rattle.job_facts.specs.States.{record_state, record_state_of};
 ghost use Rattle.job_facts.specs.States.{session_state, state_by, states_of};
+ghost use Rattle.list_store.specs.Results.{GivesOrMemory};
 
 use crate::lists::{FactLists, KeptRecord, KeptSession};
 use crate::records::{has_name, record_names};
@@ -24,10 +24,9 @@ pub(crate) fn states_among(
     batch: &Name,
     rec: &Name,
 ) -> Result<Vec<SessionState>, StoreFault>
-    ensures value { IfOk result
+    ensures { GivesOrMemory result
         (λ states. states.items
         ≡ map (session_state facts.now) (sessions_of_record sessions.now batch.now rec.now)) }
-    ensures cause { IfErr result (λ fault. fault ≡ Memory) }
 {
     let mut states = Vec::new(alloc);
     for session in sessions {
@@ -91,8 +90,7 @@ pub(crate) fn record_state(
     batch: &Name,
     rec: &Name,
 ) -> Result<RecordState, StoreFault>
-    ensures value { IfOk result (λ state. state ≡ record_state facts.now batch.now rec.now) }
-    ensures cause { IfErr result (λ fault. fault ≡ Memory) }
+    ensures { GivesOrMemory result (λ state. state ≡ record_state facts.now batch.now rec.now) }
 {
     let states = states_among(alloc, facts, &facts.sessions, batch, rec)?;
     let withdrawn = has_record(&facts.withdrawn, batch, rec);
@@ -108,8 +106,7 @@ pub(crate) fn record_state_of(
     batch: &Name,
     rec: &Name,
 ) -> Result<Option<RecordState>, StoreFault>
-    ensures value { IfOk result (λ state. state ≡ record_state_of facts.now batch.now rec.now) }
-    ensures cause { IfErr result (λ fault. fault ≡ Memory) }
+    ensures { GivesOrMemory result (λ state. state ≡ record_state_of facts.now batch.now rec.now) }
 {
     let names = record_names(alloc, facts, batch)?;
     if has_name(&names, rec) {
@@ -126,8 +123,7 @@ pub(crate) fn first_waiting(
     facts: &FactLists,
     batch: &Name,
 ) -> Result<Option<Name>, StoreFault>
-    ensures value { IfOk result (λ rec. rec ≡ first_waiting facts.now batch.now) }
-    ensures cause { IfErr result (λ fault. fault ≡ Memory) }
+    ensures { GivesOrMemory result (λ rec. rec ≡ first_waiting facts.now batch.now) }
 {
     let names = record_names(alloc, facts, batch)?;
     for rec in &names {
@@ -145,8 +141,7 @@ pub(crate) fn is_batch_finished(
     facts: &FactLists,
     batch: &Name,
 ) -> Result<bool, StoreFault>
-    ensures value { IfOk result (λ finished. finished ≡ is_batch_finished facts.now batch.now) }
-    ensures cause { IfErr result (λ fault. fault ≡ Memory) }
+    ensures { GivesOrMemory result (λ finished. finished ≡ is_batch_finished facts.now batch.now) }
 {
     let names = record_names(alloc, facts, batch)?;
     for rec in &names {

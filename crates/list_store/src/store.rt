@@ -196,6 +196,8 @@ impl ServerStore for ListStore {
 
     ghost closed = { λ _. ⊤ };
 
+    ghost unclosed = { λ _ _. ⊥ };
+
     fn fault_counts(&self) -> FaultCounts {
         FaultCounts { failed: 0, full: 0 }
     }

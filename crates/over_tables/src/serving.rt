@@ -3,7 +3,7 @@ ghost use Rattle.std.specs.Prelude.{List, is_some, length};
 ghost use Rattle.sqlite.specs.Files.{over_files};
 ghost use Rattle.sqlite.specs.declared.FileStore.{FileStore as File};
 ghost use Rattle.schema.specs.declared.store.SqlStore.{SqlStore as Store};
-ghost use Rattle.schema.specs.Closing.{LeavesWholeFile};
+ghost use Rattle.schema.specs.Closing.{FailsToFinish, LeavesWholeFile};
 ghost use Rattle.schema.specs.Stores.{connection, stands_for};
 ghost use Rattle.server.specs.Exchanges.{Exchange, Moves, ServesAll};
 ghost use Rattle.server_run.specs.ObservedRuns.{NotesRun};
@@ -46,9 +46,10 @@ pub fn serve_over_tables<D: Disk + Drop, C: Connections, W: Write, E: Write + Dr
         × ServesAll (stands_for over_files store) (stands_for over_files s) es
         × WritesLines (LeavesWholeFile (connection s)) (C.refuses connections.new) port turns
         (length es) (W.contents writer.old) (W.contents writer.new) result
-        × NotesRun (LeavesWholeFile (connection s)) (stands_for over_files store)
-        (stands_for over_files s) (is_some (C.queue connections.old)) opened.now es result
-        events.old.level (E.contents events.old.writer) (E.contents events.new.writer) }
+        × NotesRun (LeavesWholeFile (connection s)) (FailsToFinish (connection s))
+        (stands_for over_files store) (stands_for over_files s)
+        (is_some (C.queue connections.old)) opened.now es result events.old.level
+        (E.contents events.old.writer) (E.contents events.new.writer) }
 {
     serve_and_report(
         alloc,

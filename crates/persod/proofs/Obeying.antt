@@ -9,6 +9,7 @@ use Rattle.arguments.specs.declared.words.Words.TheVariants as words
 use Rattle.event_lines.specs.declared.level.Level.{Level}
 use Rattle.event_lines.specs.declared.log.EventLog.{EventLog}
 use Rattle.job_facts.specs.Store.{State}
+use Rattle.job_facts.specs.declared.store.StoreFault.{StoreFault}
 use Rattle.over_tables.specs.declared.fault.FileFault.{FileFault}
 use Rattle.over_tables.specs.declared.opening.Wanted.{Wanted}
 use Rattle.over_tables.specs.declared.opening.Wanted.TheVariants.{Any, Ours}
@@ -24,7 +25,7 @@ use Rattle.persod.specs.declared.tasks.ServeTask.{ServeTask}
 
 -- A task ran, or the file was refused.
 pub ends_over :
-    {D : Type 0} (g : Ghosts D) (image : Image) (IsFresh : Bool → D → Type 0) (wanted : Wanted) (Ran : Found → State → ((State → Type 0 → Type 0) → Type 0) → End → Type 0) (taken : Result End FileFault) (end : End)
+    {D : Type 0} (g : Ghosts D) (image : Image) (IsFresh : Bool → D → Type 0) (wanted : Wanted) (Ran : Found → State → ((State → Type 0 → (StoreFault → Type 0) → Type 0) → Type 0) → End → Type 0) (taken : Result End FileFault) (end : End)
     → end ≡ end_of_taken taken → IfOk taken (λ done. OverFiles g image (λ conn. RunsOver conn (MayHaveCommits image) wanted Ran done)) → IfErr taken (IsNotTaken g image IsFresh wanted)
     → EndsOver g image IsFresh wanted Ran end
 ends_over g image IsFresh wanted Ran (Ok ended) end is ran refused =

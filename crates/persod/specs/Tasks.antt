@@ -1,6 +1,6 @@
 -- The results of the tasks over the store in a database file (this project's profile). The bytes of
 -- the process's own streams are unknown.
-use Rattle.std.specs.Prelude.{◌≡◌, ◌⊎◌, ℕ, Bool, List, [], ◌∷◌, false, length, None, OnOk, Result, Ok, Err, ⊤, string_bytes}
+use Rattle.std.specs.Prelude.{◌≡◌, ◌⊎◌, ℕ, Bool, List, [], ◌∷◌, false, length, None, IfErr, OnOk, Result, Ok, Err, ⊤, string_bytes}
 use Rattle.std.specs.declared.io.ErrorKind.{ErrorKind}
 use Rattle.sqlite.specs.Recovery.{Image}
 use Rattle.sqlite_disk.specs.declared.Disk.{Ghosts}
@@ -36,9 +36,10 @@ use Rattle.persod.specs.declared.tasks.ReportTask.{ReportTask}
 use Rattle.persod.specs.declared.tasks.ServeTask.{ServeTask}
 
 -- The run ends with `last`, or with the fault if the store can't be closed. If it is closed,
--- `whole` is true: the database file is complete.
-abbrev pub EndsClosed : Type 0 → End → End → Type 0
-EndsClosed whole last end = (closing : Result (Unit {0}) StoreFault) × OnOk closing whole × (end ≡ end_of_close last closing)
+-- `whole` is true: the database file is complete. Otherwise `Unclosed` is true of the fault.
+abbrev pub EndsClosed : Type 0 → (StoreFault → Type 0) → End → End → Type 0
+EndsClosed whole Unclosed last end =
+    (closing : Result (Unit {0}) StoreFault) × OnOk closing whole × IfErr closing Unclosed × (end ≡ end_of_close last closing)
 
 -- ---- `serve`
 
@@ -51,26 +52,26 @@ abbrev pub IsOpening : ServeTask → Found → Opened → Type 0
 IsOpening task found opened = (opened.path.now ≡ task.path.now) × (opened.is_new ≡ found.is_new) × (opened.has_log ≡ found.has_log) × (opened.older ≡ found.older)
 
 -- Connections were served over the store, and the store was closed.
-pub record ServesFile (task : ServeTask) (found : Found) (old last : State) (whole : Type 0) (end : End) : Type 0 where
+pub record ServesFile (task : ServeTask) (found : Found) (old last : State) (whole : Type 0) (Unclosed : StoreFault → Type 0) (end : End) : Type 0 where
   pub opened : Opened
   pub exchanges : List Exchange
   pub result : Result (Unit {0}) ServeStop
   pub opening : IsOpening task found opened
   pub serves : ServesAll old last exchanges
   pub writes : WritesLines whole (λ _. ⊤) task.port task.turns (length exchanges) None None result
-  pub notes : NotesRun whole old last false opened exchanges result task.level None None
+  pub notes : NotesRun whole Unclosed old last false opened exchanges result task.level None None
   pub ends : end ≡ end_of_serve result
 
 -- The server couldn't listen on its port because of an error of the kind `why`. Its event line was
 -- written, and the store didn't change before it was closed.
-pub record LacksPort (task : ServeTask) (old last : State) (whole : Type 0) (end : End) : Type 0 where
+pub record LacksPort (task : ServeTask) (old last : State) (whole : Type 0) (Unclosed : StoreFault → Type 0) (end : End) : Type 0 where
   pub why : ErrorKind
   pub stays : Stays old last
   pub notes : NotesAll task.level None None (unstarted_line why task.port ∷ [])
-  pub ends : EndsClosed whole (end_of_port why) end
+  pub ends : EndsClosed whole Unclosed (end_of_port why) end
 
-abbrev pub Serves : ServeTask → Found → State → ((State → Type 0 → Type 0) → Type 0) → End → Type 0
-Serves task found old at_end end = at_end (λ last whole. ServesFile task found old last whole end ⊎ LacksPort task old last whole end)
+abbrev pub Serves : ServeTask → Found → State → ((State → Type 0 → (StoreFault → Type 0) → Type 0) → Type 0) → End → Type 0
+Serves task found old at_end end = at_end (λ last whole Unclosed. ServesFile task found old last whole Unclosed end ⊎ LacksPort task old last whole Unclosed end)
 
 -- ---- `report`
 
@@ -79,16 +80,16 @@ end_of_report (Ok u) = Done
 end_of_report (Err fault) = end_of_account fault
 
 -- The batch was reported, and the store didn't change before it was closed.
-pub record ReportsFile (task : ReportTask) (old last : State) (whole : Type 0) (end : End) : Type 0 where
+pub record ReportsFile (task : ReportTask) (old last : State) (whole : Type 0) (Unclosed : StoreFault → Type 0) (end : End) : Type 0 where
   pub result : Result (Unit {0}) AccountFault
   pub stays : Stays old last
   pub reports : Reports old last BatchUnknown (λ c. report_text c.facts task.batch) None None result
   pub cause : MayReport BatchUnknown result
   pub faults : CountsFaults old last (store_answer result)
-  pub ends : EndsClosed whole (end_of_report result) end
+  pub ends : EndsClosed whole Unclosed (end_of_report result) end
 
-abbrev pub ReportsBatch : ReportTask → Found → State → ((State → Type 0 → Type 0) → Type 0) → End → Type 0
-ReportsBatch task found old at_end end = at_end (λ last whole. ReportsFile task old last whole end)
+abbrev pub ReportsBatch : ReportTask → Found → State → ((State → Type 0 → (StoreFault → Type 0) → Type 0) → Type 0) → End → Type 0
+ReportsBatch task found old at_end end = at_end (λ last whole Unclosed. ReportsFile task old last whole Unclosed end)
 
 -- ---- a run over a database file
 
@@ -99,7 +100,7 @@ end_of_taken (Err fault) = end_of_file fault
 
 -- The task with the relation `Ran` ran over the store in the files, and has the end `end`. Or no
 -- task ran, and `end` is the end for the fault that says why.
-pub record EndsOver {D : Type 0} (g : Ghosts D) (image : Image) (IsFresh : Bool → D → Type 0) (wanted : Wanted) (Ran : Found → State → ((State → Type 0 → Type 0) → Type 0) → End → Type 0) (end : End) : Type 0 where
+pub record EndsOver {D : Type 0} (g : Ghosts D) (image : Image) (IsFresh : Bool → D → Type 0) (wanted : Wanted) (Ran : Found → State → ((State → Type 0 → (StoreFault → Type 0) → Type 0) → Type 0) → End → Type 0) (end : End) : Type 0 where
   pub how : OverFiles g image (λ conn. RunsOver conn (MayHaveCommits image) wanted Ran end)
       ⊎ ((fault : FileFault) × (end ≡ end_of_file fault) × IsNotTaken g image IsFresh wanted fault)
 

@@ -1,3 +1,4 @@
+mod DayLemmas
 pub mod Decisions
 pub mod Handling
 pub mod Running

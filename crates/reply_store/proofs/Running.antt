@@ -8,11 +8,12 @@ use Rattle.std.proofs.lemmas.List.Elements.{filter-append}
 use Rattle.std.proofs.lemmas.Option.{none-some, slice_get_within}
 use Rattle.job_facts.specs.declared.request.Arrival.{Arrival}
 use Rattle.job_facts.specs.declared.store.StoreFault.{StoreFault}
-use Rattle.job_facts.specs.Contents.{AreSound, Contents, Entry, entry_of}
+use Rattle.job_facts.specs.Contents.{AreSame, AreSound, Contents, Entry, entry_of}
 use Rattle.job_facts.specs.Store.{CountsFaults, IsFound, IsHonest, State, Stays, failed_after, full_after}
 use Rattle.job_facts.proofs.Lists.{each_more}
 use Rattle.arrivals.specs.declared.kept.Kept.{Kept}
 use Rattle.arrivals.specs.HttpReplies.{http_reply}
+use Rattle.arrivals.specs.Laws.{AreAbove, AreAnsweredAlike}
 use Rattle.arrivals.specs.Meaning.{Arrived, contents_after, http_reply_on, is_released, reply_to}
 use Rattle.arrivals.specs.Commands.{HandsOutNext}
 use Rattle.arrivals.proofs.Commands.{call_hands_out_next}
@@ -35,11 +36,22 @@ slice_get_end (x ∷ xs) t = slice_get_end xs t
 
 -- ---- the contents after one more arrival
 
+after_above : (c : Contents) (tries : List Tried) (a : Arrived) → AreAbove c → contents_after c (decided (tries ++ (a, true) ∷ [])) ≡ contents_after (contents_after c (decided tries)) (a ∷ [])
+after_above c tries a above = ap (contents_after c) (decided-append tries ((a, true) ∷ [])) ∙ contents_after-append c (decided tries) (a ∷ []) above
+
 pub after_true : (c : Contents) (tries : List Tried) (a : Arrived) → AreSound c → contents_after c (decided (tries ++ (a, true) ∷ [])) ≡ contents_after (contents_after c (decided tries)) (a ∷ [])
-after_true c tries a sound = ap (contents_after c) (decided-append tries ((a, true) ∷ [])) ∙ contents_after-append c (decided tries) (a ∷ []) sound.above
+after_true c tries a sound = after_above c tries a sound.above
 
 pub after_false : (c : Contents) (tries : List Tried) (a : Arrived) → contents_after c (decided (tries ++ (a, false) ∷ [])) ≡ contents_after c (decided tries)
 after_false c tries a = ap (contents_after c) (decided-append tries ((a, false) ∷ []) ∙ append-nil (decided tries))
+
+-- ---- the order of sets
+
+-- contents that are equal to contents that differ only in the order of sets
+alike_by : (c d n o : Contents) → c ≡ n → d ≡ o → AreSame n o → AreSame c d
+alike_by c d n o one two same = subst (λ (x : Contents). AreSame x d) (sym one) (subst (AreSame n) (sym two) same)
+
+-- ---- crashes
 
 -- if one more arrival commits nothing, a crash may leave what it could leave before
 left_more : (before : Option Contents → Type 0) (c : Contents) (d : Option Contents) (tries : List Tried) (t : Tried) → contents_after c (decided (tries ++ t ∷ [])) ≡ contents_after c (decided tries) → MayBeLeft before c tries d → MayBeLeft before c (tries ++ t ∷ []) d
@@ -64,6 +76,7 @@ leaves_none s sound = record {
   doubts = omega arith;
   contents = λ h c held. subst s.holds (sym (same_contents c (sound c held).above)) held;
   crash = λ h c d held left. inr (inr (same_contents c (sound c held).above, left));
+  alike = λ h c d held above same. alike_by (contents_after c []) (contents_after d []) c d (same_contents c (sound c held).above) (same_contents d above) same;
 }
 
 -- an arrival has a new number, or it leaves the contents unchanged
@@ -77,9 +90,9 @@ is_first c a sound = elim (cases_Bool (is_released c.marks a)) [
     at None e live = inl (live, e)
     at (Some entry) e live = inr (contents_old c a entry sound.above live e)
 
-pub leaves_more : (s0 s1 s2 : State) (tries : List Tried) (a : Arrived) (r : Result Kept StoreFault) → ((c : Contents) → s0.holds c → AreSound c) → ((c : Contents) → s1.holds c → AreSound c)
+pub leaves_more : AreAnsweredAlike → (s0 s1 s2 : State) (tries : List Tried) (a : Arrived) (r : Result Kept StoreFault) → ((c : Contents) → s0.holds c → AreSound c) → ((c : Contents) → s1.holds c → AreSound c)
     → Leaves s0 s1 tries → Handles s1 s2 a r → Leaves s0 s2 (tries ++ (a, is_ok r) ∷ [])
-leaves_more s0 s1 s2 tries a (Ok k) sound then run handled = record {
+leaves_more answers s0 s1 s2 tries a (Ok k) sound then run handled = record {
   doubts = omega (arith, run.doubts, handled.doubts);
   contents = λ h c held. let m : IsHonest s1 = omega (arith, handled.doubts) in let n = contents_after c (decided tries) in
       subst s2.holds (sym (after_true c tries a (sound c held))) (handled.ok h n (run.contents m c held));
@@ -88,8 +101,11 @@ leaves_more s0 s1 s2 tries a (Ok k) sound then run handled = record {
       ⊎_elim (λ first. inl (subst (IsFound d) (sym after) (handled.settled h n d now first left)))
       (λ again. ⊎_elim (λ before. left_more s0.may_leave c d tries (a, true) (after ∙ again) (run.crash m c d held before)) (λ e. inl (subst (IsFound d) (sym after) e)) (handled.crash h n d now left))
       (is_first n a (then n now));
+  alike = λ h c d held above same. let m : IsHonest s1 = omega (arith, handled.doubts) in let n = contents_after c (decided tries) in let o = contents_after d (decided tries) in
+      alike_by (contents_after c (decided (tries ++ (a, true) ∷ []))) (contents_after d (decided (tries ++ (a, true) ∷ []))) (contents_after n (a ∷ [])) (contents_after o (a ∷ []))
+      (after_true c tries a (sound c held)) (after_above d tries a above) (answers n o a (then n (run.contents m c held)) (run.alike m c d held above same)).1;
 }
-leaves_more s0 s1 s2 tries a (Err f) sound then run handled = record {
+leaves_more answers s0 s1 s2 tries a (Err f) sound then run handled = record {
   doubts = omega (arith, run.doubts, handled.doubts);
   contents = λ h c held. let m : IsHonest s1 = omega (arith, handled.doubts) in let n = contents_after c (decided tries) in
       subst s2.holds (sym (after_false c tries a)) (handled.err h n (run.contents m c held));
@@ -104,6 +120,9 @@ leaves_more s0 s1 s2 tries a (Err f) sound then run handled = record {
         subst (λ (x : Contents). IsFound d (contents_after x (a ∷ []))) (sym after) e,
       )))
       (handled.crash h n d (run.contents m c held) left);
+  alike = λ h c d held above same. let m : IsHonest s1 = omega (arith, handled.doubts) in
+      alike_by (contents_after c (decided (tries ++ (a, false) ∷ []))) (contents_after d (decided (tries ++ (a, false) ∷ []))) (contents_after c (decided tries)) (contents_after d (decided tries))
+      (after_false c tries a) (after_false d tries a) (run.alike m c d held above same);
 }
 
 -- a call that changes nothing
@@ -112,6 +131,7 @@ leaves_stays s0 s1 s2 tries run stays = record {
   doubts = omega (arith, run.doubts, stays.doubts);
   contents = λ h c held. stays.contents h (contents_after c (decided tries)) (run.contents (omega (arith, stays.doubts)) c held);
   crash = λ h c d held left. run.crash (omega (arith, stays.doubts)) c d held (stays.crash h d left);
+  alike = λ h. run.alike (omega (arith, stays.doubts));
 }
 
 -- ---- the responses
@@ -137,12 +157,12 @@ full_push (x ∷ served) s n = full_push served s (full_after x.1 n)
 pub runs_none : (s : State) → ((c : Contents) → s.holds c → AreSound c) → Runs s s []
 runs_none s sound = record { leaves = leaves_none s sound; answered_then = λ h c held i t is. absurd (none-some t is); failed = refl; full = refl }
 
-pub runs_more : (s0 s1 s2 : State) (served : List Served) (a : Arrived) (r : Result Kept StoreFault) → ((c : Contents) → s0.holds c → AreSound c) → ((c : Contents) → s1.holds c → AreSound c)
+pub runs_more : AreAnsweredAlike → (s0 s1 s2 : State) (served : List Served) (a : Arrived) (r : Result Kept StoreFault) → ((c : Contents) → s0.holds c → AreSound c) → ((c : Contents) → s1.holds c → AreSound c)
     → Runs s0 s1 served → Handles s1 s2 a r → CountsFaults s1 s2 r → Runs s0 s2 (served ++ (a, r) ∷ [])
-runs_more s0 s1 s2 served a r sound then run handled faults =
+runs_more answers s0 s1 s2 served a r sound then run handled faults =
     let pushed : tried served ++ (a, is_ok r) ∷ [] ≡ tried (served ++ (a, r) ∷ []) = sym (map_push (λ (s : Served). (s.0, is_ok s.1)) served (a, r)) in
     record {
-      leaves = subst (Leaves s0 s2) pushed (leaves_more s0 s1 s2 (tried served) a r sound then run.leaves handled);
+      leaves = subst (Leaves s0 s2) pushed (leaves_more answers s0 s1 s2 (tried served) a r sound then run.leaves handled);
       answered_then = λ h c held. let m : IsHonest s1 = omega (arith, handled.doubts) in
           each_more (AnsweredAt c) served (a, r) (run.answered_then m c held) (handled.reply_is h (contents_after c (decided (tried served))) (run.leaves.contents m c held));
       failed = faults.failed ∙ ap (failed_after r) run.failed ∙ sym (failed_push served (a, r) s0.failed);

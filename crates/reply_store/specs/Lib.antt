@@ -1,3 +1,4 @@
+pub mod Days
 pub mod Effects
 pub mod Handled
 pub mod Runs

@@ -2,10 +2,11 @@
 use Rattle.std.specs.Prelude.{◌≡◌, ◌⊎◌, ◌≤◌, ℕ, List, [], ◌∷◌, ◌++◌, map, filter, take, slice_get, Option, Some, Result, IfOk, is_ok, Bool, false}
 use Rattle.job_facts.specs.declared.request.Arrival.{Arrival}
 use Rattle.job_facts.specs.declared.store.StoreFault.{StoreFault}
-use Rattle.job_facts.specs.Contents.{Contents}
+use Rattle.job_facts.specs.Contents.{AreSame, Contents}
 use Rattle.job_facts.specs.Store.{IsFound, IsHonest, State, Stays, failed_after, full_after}
 use Rattle.arrivals.specs.declared.kept.Kept.{Kept}
 use Rattle.arrivals.specs.HttpReplies.{http_reply}
+use Rattle.arrivals.specs.Laws.{AreAbove}
 use Rattle.arrivals.specs.Meaning.{Arrived, contents_after, http_reply_on, reply_to}
 use Rattle.arrivals.specs.Commands.{HandsOutNext}
 use Rattle.reply_store.specs.Handled.{Handles, IsFirst}
@@ -36,6 +37,9 @@ pub record Leaves (old new : State) (tried : List Tried) : Type 0 where
   pub doubts : old.doubts ≤ new.doubts
   pub contents : IsHonest new → (c : Contents) → old.holds c → new.holds (contents_after c (decided tried))
   pub crash : IsHonest new → (c : Contents) (d : Option Contents) → old.holds c → new.may_leave d → MayBeLeft old.may_leave c tried d
+  -- for contents that differ only in the order of sets and maps, the contents after the decided
+  -- arrivals again differ only in this order
+  pub alike : IsHonest new → (c d : Contents) → old.holds c → AreAbove d → AreSame c d → AreSame (contents_after c (decided tried)) (contents_after d (decided tried))
 
 -- `Leaves` can be proved in steps: for no arrival, after one more arrival that is handled, and
 -- after a call that changes nothing

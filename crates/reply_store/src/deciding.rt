@@ -2,7 +2,7 @@
 ghost use Rattle.std.specs.Prelude.{◌≡◌, ◌≤◌, ℕ, List};
 ghost use Rattle.job_facts.specs.Contents.{Contents, mark_of};
 ghost use Rattle.job_facts.specs.Requests.{IsCall};
-ghost use Rattle.job_facts.specs.Store.{CountsFaults, Reads, Stays};
+ghost use Rattle.job_facts.specs.Store.{LeavesContents, Reads};
 ghost use Rattle.job_facts.specs.declared.request.Call.TheVariants as call;
 ghost use Rattle.reply_store.specs.Effects.{Decided};
 
@@ -35,11 +35,10 @@ pub(crate) fn decide_call<'a, S: JobStore>(
     mark: u64,
 ) -> Result<(Reply, Effect<'a>), StoreFault>
     requires { IsCall call.now }
-    ensures stays { Stays (S.state store.old) (S.state store.new) }
     ensures value { Reads (S.state store.old) (S.state store.new) result
         (λ c answer. mark ≡ mark_of c.marks client.now
         → Decided c client.now number call.now answer.0 answer.1) }
-    ensures faults { CountsFaults (S.state store.old) (S.state store.new) result }
+    ensures leaves { LeavesContents (S.state store.old) (S.state store.new) result }
 {
     match call {
         Call::Job { request } => {

@@ -97,6 +97,7 @@ pub fn run<S: JobStore>(
     ensures count { IfOk result (λ outcomes. length outcomes.items ≡ length arrivals.now) }
     ensures err { OnErr result (store.new ≡ store.old) }
 {
+    arrivals::same_contents_answer_alike();
     let mut outcomes = Vec::with_capacity(alloc, arrivals.len())?;
     for arrival in arrivals {
         let outcome = handle(

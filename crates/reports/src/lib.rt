@@ -4,7 +4,7 @@
 
 ghost use Rattle.job_facts.specs.Accounts.{batch_totals, blank_totals};
 ghost use Rattle.job_facts.specs.Contents.{Contents};
-ghost use Rattle.job_facts.specs.Store.{CountsFaults, Stays};
+ghost use Rattle.job_facts.specs.Store.{LeavesContents};
 ghost use Rattle.job_facts.specs.declared.refusal.Refusal.TheVariants.{BatchUnknown};
 ghost use Rattle.job_facts.specs.declared.refusal.Refusal.TheVariants.{ProductUnknown};
 ghost use Rattle.reports.specs.Accounts.{AreAllCounted, AreAllStanding, batch_account};
@@ -40,12 +40,11 @@ pub fn batch_counts<S: JobStore>(
     store: &mut S,
     batch: &Name,
 ) -> Result<Bytes, AccountFault>
-    ensures stays { Stays (S.state store.old) (S.state store.new) }
     ensures answers { AnswersText (S.state store.old) (S.state store.new) BatchUnknown
         (λ c. batch_account c.facts batch.now) result }
     ensures all { (c : Contents) → AreAllStanding (batch_totals c.facts batch.now) }
     ensures cause { MayAnswer BatchUnknown result }
-    ensures faults { CountsFaults (S.state store.old) (S.state store.new) (store_answer result) }
+    ensures leaves { LeavesContents (S.state store.old) (S.state store.new) (store_answer result) }
 {
     let Some(row) = store.batch(batch)? else {
         return Err(AccountFault::Refused(Refusal::BatchUnknown));
@@ -66,13 +65,12 @@ pub fn blank_counts<S: JobStore>(
     store: &mut S,
     product: &Name,
 ) -> Result<Bytes, AccountFault>
-    ensures stays { Stays (S.state store.old) (S.state store.new) }
     ensures answers { AnswersText (S.state store.old) (S.state store.new) ProductUnknown
         (λ c. blank_account c.facts product.now) result }
     ensures all { (c : Contents) → (S.state store.old).holds c
         → AreAllCounted (blank_totals c.facts product.now) }
     ensures cause { MayAnswer ProductUnknown result }
-    ensures faults { CountsFaults (S.state store.old) (S.state store.new) (store_answer result) }
+    ensures leaves { LeavesContents (S.state store.old) (S.state store.new) (store_answer result) }
 {
     let Some(_) = store.product(product)? else {
         return Err(AccountFault::Refused(Refusal::ProductUnknown));
@@ -95,13 +93,12 @@ pub fn close_report<S: JobStore, W: Write>(
     batch: &Name,
     writer: &mut W,
 ) -> Result<(), AccountFault>
-    ensures stays { Stays (S.state store.old) (S.state store.new) }
     ensures reports { Reports (S.state store.old) (S.state store.new) BatchUnknown
         (λ c. report_text c.facts batch.now)
         (W.contents writer.old) (W.contents writer.new) result }
     ensures unwritten { KeepsUnwritten (W.contents writer.old) (W.contents writer.new) result }
     ensures cause { MayReport BatchUnknown result }
-    ensures faults { CountsFaults (S.state store.old) (S.state store.new) (store_answer result) }
+    ensures leaves { LeavesContents (S.state store.old) (S.state store.new) (store_answer result) }
 {
     let text = report_of(alloc, store, batch)?;
     write_text(writer, text.as_slice())?;
@@ -119,11 +116,10 @@ pub fn report_of<S: JobStore>(
     store: &mut S,
     batch: &Name,
 ) -> Result<Bytes, AccountFault>
-    ensures stays { Stays (S.state store.old) (S.state store.new) }
     ensures answers { AnswersText (S.state store.old) (S.state store.new) BatchUnknown
         (λ c. report_text c.facts batch.now) result }
     ensures cause { MayAnswer BatchUnknown result }
-    ensures faults { CountsFaults (S.state store.old) (S.state store.new) (store_answer result) }
+    ensures leaves { LeavesContents (S.state store.old) (S.state store.new) (store_answer result) }
 {
     let Some(row) = store.batch(batch)? else {
         return Err(AccountFault::Refused(Refusal::BatchUnknown));

@@ -33,6 +33,8 @@ impl<D: Disk + Drop> ServerStore for SqlStore<FileStore<D>> {
 
     ghost closed = { λ store. LeavesWholeFile (connection store) };
 
+    ghost unclosed = { λ store fault. FailsToFinish (connection store) fault };
+
     fn fault_counts(&self) -> FaultCounts {
         self.fault_counts_of()
     }
@@ -54,6 +56,8 @@ impl ServerStore for SqlStore<MemStore> {
     ghost use Rattle.std.specs.Prelude.{⊤};
 
     ghost closed = { λ _. ⊤ };
+
+    ghost unclosed = { λ _ _. ⊥ };
 
     fn fault_counts(&self) -> FaultCounts {
         self.fault_counts_of()

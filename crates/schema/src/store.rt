@@ -32,7 +32,7 @@ pub struct SqlStore<S: Alter> {
 
 impl<S: Alter> SqlStore<S> {
     ghost use Rattle.std.specs.Prelude.{length};
-    ghost use Rattle.job_facts.specs.Store.{CountsFaults, Reads, Stays};
+    ghost use Rattle.job_facts.specs.Store.{LeavesContents, Reads};
     ghost use Rattle.job_facts.specs.Reopening.{counts_of};
     ghost use Rattle.schema.specs.Stores.{connection, stands_for};
 
@@ -62,11 +62,10 @@ impl<S: Alter> SqlStore<S> {
 
     // Returns the number of kept replies.
     pub(crate) fn count_replies(&mut self) -> Result<u64, StoreFault>
-        ensures stays { Stays (stands_for S.Store self.old) (stands_for S.Store self.new) }
         ensures value { Reads (stands_for S.Store self.old) (stands_for S.Store self.new) result
             (λ c answer. answer ≡ length c.kept) }
-        ensures faults { CountsFaults (stands_for S.Store self.old)
-            (stands_for S.Store self.new) result }
+        ensures leaves { LeavesContents (stands_for S.Store self.old) (stands_for S.Store self.new)
+            result }
     {
         let answer = reads::reply_count(&mut self.conn);
         self.counts.translated(answer)

@@ -152,13 +152,13 @@ holdings-later old begun new h doubts held = record {
 }
 
 -- the event lines of the database file, the connections, and the close
-pub notes-run : {S : Type 0} (state : S → State) → AreLeftInTurn state → (old begun new : S) (closed : Type 0) (waiting left : Option Queue) (opened : Opened)
+pub notes-run : {S : Type 0} (state : S → State) → AreLeftInTurn state → (old begun new : S) (closed : Type 0) (Unclosed : StoreFault → Type 0) (waiting left : Option Queue) (opened : Opened)
     (es : List Exchange) (os : List Observation) (count : ℕ) (closing : Result (Unit {0}) StoreFault) (result : Result (Unit {0}) ServeStop)
     (level level1 level2 : Level) (before first second after : Option (List ℕ)) (h : Holdings) → Stays (state old) (state begun) → AreHoldings (state old) (state begun) h
     → NotesAll level before first (opening_lines level opened h) → level1 ≡ level → ObservesAll state begun new waiting left level1 first second es os → level2 ≡ level1
-    → length es ≡ count → NotesClose closed count level2 second after closing → IsStopOf result closing
-    → NotesRun closed (state old) (state new) (is_some waiting) opened es result level before after
-notes-run state turns old begun new closed waiting left opened es os count closing result level level1 level2 before first second after h stays held opens same1 all same2 counted closes stop =
+    → length es ≡ count → NotesClose closed Unclosed count level2 second after closing → IsStopOf result closing
+    → NotesRun closed Unclosed (state old) (state new) (is_some waiting) opened es result level before after
+notes-run state turns old begun new closed Unclosed waiting left opened es os count closing result level level1 level2 before first second after h stays held opens same1 all same2 counted closes stop =
     let leaves = (all.serves begun (serves_none state turns begun)).leaves in
     record {
       holdings = h;
@@ -170,6 +170,7 @@ notes-run state turns old begun new closed waiting left opened es os count closi
       counts = all.counts;
       products = λ honest c sound. all.products honest c (stays.contents (omega (arith, leaves.doubts, honest)) c sound);
       is_closed = closes.is_closed;
+      why = closes.why;
       stop = stop;
       noted = both-all level before second after (opening_lines level opened h ++ connection_lines level false os) (closing_lines level (length es) closing)
           (both-all level before first second _ _ opens (subst (λ (l : Level). NotesAll l first second (connection_lines l false os)) same1 all.noted))

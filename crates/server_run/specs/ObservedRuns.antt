@@ -1,5 +1,5 @@
 -- Defines the observations of a server's connections, and the event lines of a whole run.
-use Rattle.std.specs.Prelude.{◌≡◌, ℕ, Bool, false, List, [], ◌∷◌, ◌++◌, length, Option, is_some, OnOk, Result, Err, ⊤}
+use Rattle.std.specs.Prelude.{◌≡◌, ℕ, Bool, false, List, [], ◌∷◌, ◌++◌, length, Option, is_some, IfErr, OnOk, Result, Err, ⊤}
 use Rattle.job_facts.specs.declared.store.StoreFault.{StoreFault}
 use Rattle.job_facts.specs.Contents.{Contents}
 use Rattle.job_facts.specs.Store.{IsHonest, State}
@@ -62,8 +62,8 @@ abbrev pub IsStopOf : Result (Unit {0}) ServeStop → Result (Unit {0}) StoreFau
 IsStopOf result closing = (fault : StoreFault) → result ≡ Err (Store fault) → closing ≡ Err fault
 
 -- the event lines of a run that served the exchanges `es` and closed the store were written;
--- `closed` holds if the close succeeded
-pub record NotesRun (closed : Type 0) (old new : State) (known : Bool) (opened : Opened) (es : List Exchange) (result : Result (Unit {0}) ServeStop)
+-- `closed` holds if the close succeeded, and `Unclosed` of its fault if it failed
+pub record NotesRun (closed : Type 0) (Unclosed : StoreFault → Type 0) (old new : State) (known : Bool) (opened : Opened) (es : List Exchange) (result : Result (Unit {0}) ServeStop)
     (level : Level) (before after : Option (List ℕ)) : Type 0 where
   pub holdings : Holdings
   pub observations : List Observation
@@ -74,5 +74,6 @@ pub record NotesRun (closed : Type 0) (old new : State) (known : Bool) (opened :
   pub counts : CountsGoOn start (counts_of new) observations
   pub products : IsHonest new → (c : Contents) → old.holds c → AreProducts c [] es observations
   pub is_closed : OnOk closing closed
+  pub why : IfErr closing Unclosed
   pub stop : IsStopOf result closing
   pub noted : NotesAll level before after (event_texts level opened (length es) holdings observations closing)

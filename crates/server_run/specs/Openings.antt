@@ -1,5 +1,5 @@
 -- Defines the event lines at the start and the end of a server (this project's profile).
-use Rattle.std.specs.Prelude.{◌≡◌, ℕ, List, [], ◌∷◌, ◌++◌, length, codes, if◌then◌else◌, Option, Some, None, IfSome, OnOk, Result, Ok, Err}
+use Rattle.std.specs.Prelude.{◌≡◌, ℕ, List, [], ◌∷◌, ◌++◌, length, codes, if◌then◌else◌, Option, Some, None, IfErr, IfSome, OnOk, Result, Ok, Err}
 use Rattle.job_facts.specs.declared.store.StoreFault.{StoreFault}
 use Rattle.job_facts.specs.Contents.{Contents}
 use Rattle.job_facts.specs.Store.{IsHonest, State}
@@ -52,7 +52,9 @@ closing_lines Off count closing = []
 closing_lines Usual count closing = closing_line count closing ∷ []
 closing_lines All count closing = closing_line count closing ∷ []
 
--- the store was closed with this result, and the lines of the close were written
-pub record NotesClose (closed : Type 0) (count : ℕ) (level : Level) (before after : Option (List ℕ)) (closing : Result (Unit {0}) StoreFault) : Type 0 where
+-- the store was closed with this result, for a reason if it is a fault, and the lines of the close
+-- were written
+pub record NotesClose (closed : Type 0) (Unclosed : StoreFault → Type 0) (count : ℕ) (level : Level) (before after : Option (List ℕ)) (closing : Result (Unit {0}) StoreFault) : Type 0 where
   pub is_closed : OnOk closing closed
+  pub why : IfErr closing Unclosed
   pub noted : NotesAll level before after (closing_lines level count closing)

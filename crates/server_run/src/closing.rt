@@ -1,5 +1,5 @@
 //! Closes the store of a server, and writes the event line of the close.
-ghost use Rattle.std.specs.Prelude.{◌≡◌, IfOk, OnOk};
+ghost use Rattle.std.specs.Prelude.{◌≡◌, IfErr, IfOk, OnOk};
 ghost use Rattle.event_lines.specs.Notes.{NotesAll};
 ghost use Rattle.event_lines.specs.Views.{text_of};
 ghost use Rattle.server_run.specs.Openings.{closing_line, closing_lines};
@@ -22,6 +22,7 @@ pub(crate) fn close<S: ServerStore, E: Write + Drop>(
     count: u32,
 ) -> Result<(), StoreFault>
     ensures closed { OnOk result (S.closed store) }
+    ensures fault { IfErr result (λ fault. S.unclosed store fault) }
     ensures noted { NotesAll events.old.level (E.contents events.old.writer)
         (E.contents events.new.writer) (closing_lines events.old.level count result) }
 {

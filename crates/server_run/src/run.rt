@@ -49,9 +49,9 @@ pub fn serve_and_report<S: ServerStore, C: Connections, W: Write, E: Write + Dro
         × ServesAll (S.state store) (S.state s) es
         × WritesLines (S.closed s) (C.refuses connections.new) port turns (length es)
         (W.contents writer.old) (W.contents writer.new) result
-        × NotesRun (S.closed s) (S.state store) (S.state s) (is_some (C.queue connections.old))
-        opened.now es result events.old.level (E.contents events.old.writer)
-        (E.contents events.new.writer) }
+        × NotesRun (S.closed s) (S.unclosed s) (S.state store) (S.state s)
+        (is_some (C.queue connections.old)) opened.now es result events.old.level
+        (E.contents events.old.writer) (E.contents events.new.writer) }
 {
     reply_store::laws::left_in_turn::<S>();
     let mut store = store;
@@ -101,8 +101,8 @@ fn finish<S: ServerStore, W: Write, E: Write + Drop>(
         (W.contents writer.new) result }
     ensures noted { (closing : Result (Unit {0}) StoreFaultValue)
         × OnOk run.outcome (IsStopOf result closing)
-        × NotesClose (S.closed store) run.count events.old.level (E.contents events.old.writer)
-        (E.contents events.new.writer) closing }
+        × NotesClose (S.closed store) (S.unclosed store) run.count events.old.level
+        (E.contents events.old.writer) (E.contents events.new.writer) closing }
 {
     let closing = close(alloc, store, events, run.count);
     run.outcome?;

@@ -15,6 +15,7 @@ use Rattle.sqlite_disk.specs.declared.Disk.{Ghosts}
 use Rattle.sqlite_disk.specs.declared.Files.{Files}
 use Rattle.sqlite.specs.WalReads.{AreClean}
 use Rattle.job_facts.specs.Store.{State}
+use Rattle.job_facts.specs.declared.store.StoreFault.{StoreFault}
 use Rattle.schema.specs.Stores.{connection, stands_for}
 use Rattle.schema.specs.declared.store.SqlStore.{SqlStore}
 use Rattle.over_tables.specs.Opens as tables
@@ -41,7 +42,7 @@ module _ {D : Type 0} {g : Ghosts D} where
   -- `HasLog` says that the WAL was longer than after an ordinary exit. `Ran` is the relation of the
   -- task between the state in which the file was found, the state of the store, the end, and the
   -- result.
-  pub record RunsOver {Done : Type 0} (conn : Held (FileStore D g)) (HasLog : Type 0) (wanted : Wanted) (Ran : Found → State → ((State → Type 0 → Type 0) → Type 0) → Done → Type 0) (done : Done) : Type 0 where
+  pub record RunsOver {Done : Type 0} (conn : Held (FileStore D g)) (HasLog : Type 0) (wanted : Wanted) (Ran : Found → State → ((State → Type 0 → (StoreFault → Type 0) → Type 0) → Type 0) → Done → Type 0) (done : Done) : Type 0 where
     pub found : Found
     pub store : SqlStore (FileStore D g) over_files
     pub is_new : IsTrue found.is_new ↔ tables.Begins wanted (file_state conn).now

@@ -20,6 +20,7 @@ use std::alloc::Global;
 pub trait StoreTask {
     ghost use Rattle.sqlite.specs.Files.{over_files};
     ghost use Rattle.job_facts.specs.Store.{State};
+    ghost use Rattle.job_facts.specs.declared.store.StoreFault.{StoreFault as Fault};
     ghost use Rattle.schema.specs.Stores.{stands_for};
     ghost use Rattle.store_files.specs.Ending.{AtEnd};
     ghost use Rattle.store_files.specs.declared.file.Found.{Found as How};
@@ -29,8 +30,10 @@ pub trait StoreTask {
 
     /// `ran task found state at_end done` says that the task has the result `done` if its file was
     /// found as `found` and its store is in the state `state`. `at_end` is about the last state of
-    /// the store and about the statement that the database file is then complete.
-    ghost ran: { Self → How → State → ((State → Type 0 → Type 0) → Type 0) → Self.Done → Type 0 };
+    /// the store, about the statement that the database file is then complete, and about the
+    /// possible faults of the close.
+    ghost ran: { Self → How → State
+        → ((State → Type 0 → (Fault → Type 0) → Type 0) → Type 0) → Self.Done → Type 0 };
 
     /// Performs the task with `store`, and closes the store.
     fn perform<D: Disk + Drop>(self, store: SqlStore<FileStore<D>>, found: Found) -> Self::Done

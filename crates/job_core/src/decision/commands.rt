@@ -6,7 +6,7 @@ ghost use Rattle.job_facts.specs.Facts.{Facts};
 ghost use Rattle.job_facts.specs.Rows.{placed_of, segment_row_of};
 ghost use Rattle.job_facts.specs.declared.rows.SegmentRow.{SegmentRow as SegmentRowValue};
 ghost use Rattle.job_facts.specs.States.{plan_for};
-ghost use Rattle.job_facts.specs.Store.{CountsFaults, Reads, Stays};
+ghost use Rattle.job_facts.specs.Store.{LeavesContents, Reads};
 
 use job_facts::{JobStore, SegmentRow, StoreFault};
 use std::alloc::{AllocError, Global};
@@ -21,11 +21,10 @@ pub(crate) fn command<S: JobStore>(
     rec: &Name,
     cursor: &Cursor,
 ) -> Result<Option<Bytes>, StoreFault>
-    ensures stays { Stays (S.state store.old) (S.state store.new) }
     ensures value { Reads (S.state store.old) (S.state store.new) result
         (λ c answer. (plan : Plan) (k : ℕ) → plan_for c.facts batch.now rec.now ≡ Some plan
         → IsPlan plan → cursor_at plan k ≡ Some cursor.now → answer ≡ slice_get (sequence plan) k) }
-    ensures faults { CountsFaults (S.state store.old) (S.state store.new) result }
+    ensures leaves { LeavesContents (S.state store.old) (S.state store.new) result }
 {
     let segment = store.segment(batch, rec, cursor.app, cursor.segment)?;
     Ok(command_from(alloc, &segment, cursor)?)

@@ -8,7 +8,7 @@ ghost use Rattle.job_facts.specs.Requests.{IsLotRange};
 ghost use Rattle.job_facts.specs.Rows.{batch_has, batch_row_of, batch_size_of};
 ghost use Rattle.job_facts.specs.States.{any_overlaps, batch_named, lot_named, product_named};
 ghost use Rattle.job_facts.specs.Steps.{new_batch, new_lot, same_product, taken_in};
-ghost use Rattle.job_facts.specs.Store.{CountsFaults, Reads, Stays};
+ghost use Rattle.job_facts.specs.Store.{LeavesContents, Reads};
 ghost use Rattle.job_facts.specs.declared.request.Request.TheVariants as request;
 ghost use Rattle.job_facts.specs.declared.store.StoreFault.TheVariants.{Memory};
 
@@ -36,10 +36,9 @@ pub(crate) fn product<S: JobStore>(
     product: &Product,
 ) -> Result<Decision<'static>, StoreFault>
     requires { IsProduct product.now }
-    ensures stays { Stays (S.state store.old) (S.state store.new) }
     ensures value { Reads (S.state store.old) (S.state store.new) result
         (λ c answer. Decides c.facts client.now (request.Product product.now) answer.0 answer.1) }
-    ensures faults { CountsFaults (S.state store.old) (S.state store.new) result }
+    ensures leaves { LeavesContents (S.state store.old) (S.state store.new) result }
 {
     let kept = store.product(&product.code)?;
     let products = store.product_count()?;
@@ -101,10 +100,9 @@ pub(crate) fn lot<S: JobStore>(
     lot: &Lot,
 ) -> Result<Decision<'static>, StoreFault>
     requires { IsLotRange lot.now }
-    ensures stays { Stays (S.state store.old) (S.state store.new) }
     ensures value { Reads (S.state store.old) (S.state store.new) result
         (λ c answer. Decides c.facts client.now (request.Lot lot.now) answer.0 answer.1) }
-    ensures faults { CountsFaults (S.state store.old) (S.state store.new) result }
+    ensures leaves { LeavesContents (S.state store.old) (S.state store.new) result }
 {
     let kept = store.lot(&lot.name)?;
     let product = store.product(&lot.product)?;
@@ -171,11 +169,10 @@ pub(crate) fn import<'a, S: JobStore>(
     product: &Name,
     raw: &'a [u8],
 ) -> Result<Decision<'a>, StoreFault>
-    ensures stays { Stays (S.state store.old) (S.state store.new) }
     ensures value { Reads (S.state store.old) (S.state store.new) result
         (λ c answer. Decides c.facts client.now (request.Import batch.now product.now raw.now)
         answer.0 answer.1) }
-    ensures faults { CountsFaults (S.state store.old) (S.state store.new) result }
+    ensures leaves { LeavesContents (S.state store.old) (S.state store.new) result }
 {
     match store.batch(batch)? {
         None => {

@@ -5,7 +5,7 @@ ghost use Rattle.job_facts.specs.Handing.{IsOpenBatch, IsOpenRecord};
 ghost use Rattle.job_facts.specs.Rows.{batch_row_of};
 ghost use Rattle.job_facts.specs.Sound.{Decides, IsSound};
 ghost use Rattle.job_facts.specs.States.{is_batch_finished, is_charged, lot_of, record_state_of};
-ghost use Rattle.job_facts.specs.Store.{CountsFaults, Reads, Stays};
+ghost use Rattle.job_facts.specs.Store.{LeavesContents, Reads};
 ghost use Rattle.job_facts.specs.declared.change.Change.TheVariants.{Discards, Withdraws};
 ghost use Rattle.job_facts.specs.declared.reply.Reply.TheVariants.{Discarded, Withdrawn};
 ghost use Rattle.job_facts.specs.declared.request.Request.TheVariants as request;
@@ -20,10 +20,9 @@ pub(crate) fn discard<S: JobStore>(
     client: &Name,
     blank: u64,
 ) -> Result<Decision<'static>, StoreFault>
-    ensures stays { Stays (S.state store.old) (S.state store.new) }
     ensures value { Reads (S.state store.old) (S.state store.new) result
         (λ c answer. Decides c.facts client.now (request.Discard blank) answer.0 answer.1) }
-    ensures faults { CountsFaults (S.state store.old) (S.state store.new) result }
+    ensures leaves { LeavesContents (S.state store.old) (S.state store.new) result }
 {
     let lot = store.lot_of(blank)?;
     let charged = store.is_charged(blank)?;
@@ -51,11 +50,10 @@ pub(crate) fn remake<S: JobStore>(
     batch: &Name,
     rec: &Name,
 ) -> Result<Decision<'static>, StoreFault>
-    ensures stays { Stays (S.state store.old) (S.state store.new) }
     ensures value { Reads (S.state store.old) (S.state store.new) result
         (λ c answer. Decides c.facts client.now (request.Remake batch.now rec.now)
         answer.0 answer.1) }
-    ensures faults { CountsFaults (S.state store.old) (S.state store.new) result }
+    ensures leaves { LeavesContents (S.state store.old) (S.state store.new) result }
 {
     match record_at(store, batch, rec)? {
         Err(refusal) => Ok(refused(refusal)),
@@ -87,11 +85,10 @@ pub(crate) fn withdraw<S: JobStore>(
     batch: &Name,
     rec: &Name,
 ) -> Result<Decision<'static>, StoreFault>
-    ensures stays { Stays (S.state store.old) (S.state store.new) }
     ensures value { Reads (S.state store.old) (S.state store.new) result
         (λ c answer. Decides c.facts client.now (request.Withdraw batch.now rec.now)
         answer.0 answer.1) }
-    ensures faults { CountsFaults (S.state store.old) (S.state store.new) result }
+    ensures leaves { LeavesContents (S.state store.old) (S.state store.new) result }
 {
     match record_at(store, batch, rec)? {
         Err(refusal) => Ok(refused(refusal)),
@@ -134,10 +131,9 @@ fn record_at<S: JobStore>(
     batch: &Name,
     rec: &Name,
 ) -> Result<Result<RecordState, Refusal>, StoreFault>
-    ensures stays { Stays (S.state store.old) (S.state store.new) }
     ensures value { Reads (S.state store.old) (S.state store.new) result
         (λ c found. IsOpenRecord c.facts batch.now rec.now found) }
-    ensures faults { CountsFaults (S.state store.old) (S.state store.new) result }
+    ensures leaves { LeavesContents (S.state store.old) (S.state store.new) result }
 {
     let row = store.batch(batch)?;
     let stands = store.record_state(batch, rec)?;
@@ -170,10 +166,9 @@ pub(crate) fn close<S: JobStore>(
     client: &Name,
     batch: &Name,
 ) -> Result<Decision<'static>, StoreFault>
-    ensures stays { Stays (S.state store.old) (S.state store.new) }
     ensures value { Reads (S.state store.old) (S.state store.new) result
         (λ c answer. Decides c.facts client.now (request.Close batch.now) answer.0 answer.1) }
-    ensures faults { CountsFaults (S.state store.old) (S.state store.new) result }
+    ensures leaves { LeavesContents (S.state store.old) (S.state store.new) result }
 {
     let row = store.batch(batch)?;
     let finished = store.is_finished(batch)?;

@@ -13,7 +13,7 @@ ghost use Rattle.job_facts.specs.Sound.{Decides, IsSound, Makes};
 ghost use Rattle.job_facts.specs.States.{first_waiting, is_charged, lot_of, plan_for};
 ghost use Rattle.job_facts.specs.States.{running_session};
 ghost use Rattle.job_facts.specs.Steps.{opened, take_word};
-ghost use Rattle.job_facts.specs.Store.{CountsFaults, Reads, Stays};
+ghost use Rattle.job_facts.specs.Store.{LeavesContents, Reads};
 ghost use Rattle.job_facts.specs.declared.change.Change.TheVariants.{AddsWord};
 ghost use Rattle.job_facts.specs.declared.request.Request.TheVariants as request;
 ghost use Rattle.job_facts.specs.declared.rows.SegmentRow.{SegmentRow as SegmentRowValue};
@@ -36,10 +36,9 @@ pub(crate) fn abort<S: JobStore>(
     client: &Name,
     session: u64,
 ) -> Result<Decision<'static>, StoreFault>
-    ensures stays { Stays (S.state store.old) (S.state store.new) }
     ensures value { Reads (S.state store.old) (S.state store.new) result
         (λ c answer. Decides c.facts client.now (request.Abort session) answer.0 answer.1) }
-    ensures faults { CountsFaults (S.state store.old) (S.state store.new) result }
+    ensures leaves { LeavesContents (S.state store.old) (S.state store.new) result }
 {
     let row = store.session(session)?;
     Ok(abort_by(client, session, row))
@@ -78,10 +77,9 @@ pub(crate) fn reset<S: JobStore>(
     store: &mut S,
     client: &Name,
 ) -> Result<Decision<'static>, StoreFault>
-    ensures stays { Stays (S.state store.old) (S.state store.new) }
     ensures value { Reads (S.state store.old) (S.state store.new) result
         (λ c answer. Decides c.facts client.now request.Reset answer.0 answer.1) }
-    ensures faults { CountsFaults (S.state store.old) (S.state store.new) result }
+    ensures leaves { LeavesContents (S.state store.old) (S.state store.new) result }
 {
     let session = store.running_session(client)?;
     Ok(reset_by(client, session))
@@ -108,10 +106,9 @@ pub(crate) fn open<S: JobStore>(
     batch: &Name,
     blank: u64,
 ) -> Result<Decision<'static>, StoreFault>
-    ensures stays { Stays (S.state store.old) (S.state store.new) }
     ensures value { Reads (S.state store.old) (S.state store.new) result
         (λ c answer. Decides c.facts client.now (request.Open batch.now blank) answer.0 answer.1) }
-    ensures faults { CountsFaults (S.state store.old) (S.state store.new) result }
+    ensures leaves { LeavesContents (S.state store.old) (S.state store.new) result }
 {
     let row = store.batch(batch)?;
     let busy = store.running_session(client)?;
@@ -172,12 +169,11 @@ fn opening<S: JobStore>(
     opens: (Name, Name),
     session: u64,
 ) -> Result<Decision<'static>, StoreFault>
-    ensures stays { Stays (S.state store.old) (S.state store.new) }
     ensures value { Reads (S.state store.old) (S.state store.new) result
         (λ c answer. MayOpen c.facts client.now batch.now blank opens.0 opens.1
         → session ≡ length c.facts.sessions + 1
         → Makes c.facts (opened c.facts client.now batch.now blank opens.0) answer.0 answer.1) }
-    ensures faults { CountsFaults (S.state store.old) (S.state store.new) result }
+    ensures leaves { LeavesContents (S.state store.old) (S.state store.new) result }
 {
     let (rec, lot) = opens;
     let command = command(alloc, store, batch, &rec, &Cursor::start())?;
@@ -244,11 +240,10 @@ pub(crate) fn answer<S: JobStore>(
     index: u32,
     sw: u16,
 ) -> Result<Decision<'static>, StoreFault>
-    ensures stays { Stays (S.state store.old) (S.state store.new) }
     ensures value { Reads (S.state store.old) (S.state store.new) result
         (λ c answer. Decides c.facts client.now (request.Answer session index sw)
         answer.0 answer.1) }
-    ensures faults { CountsFaults (S.state store.old) (S.state store.new) result }
+    ensures leaves { LeavesContents (S.state store.old) (S.state store.new) result }
 {
     let row = match running(client, session, store.session(session)?) {
         Err(refusal) => return Ok(refused(refusal)),
@@ -270,12 +265,11 @@ fn taking_word<S: JobStore>(
     sw: u16,
 ) -> Result<Decision<'static>, StoreFault>
     requires { IsCursor row.now.cursor }
-    ensures stays { Stays (S.state store.old) (S.state store.new) }
     ensures value { Reads (S.state store.old) (S.state store.new) result
         (λ c answer. (x : Session) (plan : Plan) → Runs c.facts session x plan
         → row.now ≡ session_row c.facts x → index ≡ length x.words
         → Makes c.facts (take_word c.facts session index sw x) answer.0 answer.1) }
-    ensures faults { CountsFaults (S.state store.old) (S.state store.new) result }
+    ensures leaves { LeavesContents (S.state store.old) (S.state store.new) result }
 {
     let segment = store.segment(&row.batch, &row.rec, row.cursor.app, row.cursor.segment)?;
     let next = after_word(&row.cursor, &segment, sw);
@@ -293,7 +287,6 @@ fn next_command<S: JobStore>(
     next: &Option<Cursor>,
 ) -> Result<Option<Bytes>, StoreFault>
     requires { IfSome segment.now (λ (x : SegmentRowValue). x.low ≤ 31) }
-    ensures stays { Stays (S.state store.old) (S.state store.new) }
     ensures value { Reads (S.state store.old) (S.state store.new) result
         (λ c answer. (plan : Plan) (k : ℕ) → plan_for c.facts row.now.batch row.now.rec ≡ Some plan
         → IsPlan plan
@@ -301,7 +294,7 @@ fn next_command<S: JobStore>(
         row.now.cursor.segment
         → IfSome next.now (λ (cursor : CursorValue). cursor_at plan (k + 1) ≡ Some cursor)
         → Hands plan k next.now answer) }
-    ensures faults { CountsFaults (S.state store.old) (S.state store.new) result }
+    ensures leaves { LeavesContents (S.state store.old) (S.state store.new) result }
 {
     match next {
         None => Ok(None),

@@ -30,7 +30,7 @@ loop-arrival-preserved g c =
     (let worked : c.push.result ≡ Ok c.unwrap.result = c.unwrap.ensures in rw worked at c.push.ensures.items)) in
     record {
       runs = subst (λ (s : List Served). Runs (state c.args.store.now) (state c.handle-outcome.new.store) s) more
-          (runs_more (state c.args.store.now) (state c.loop-arrival.store) (state c.handle-outcome.new.store) so_far (arrived a) r (g.met.S.JobStore.sound c.args.store.now) (g.met.S.JobStore.sound c.loop-arrival.store) c.loop-arrival.invariant.runs handled c.handle-outcome.ensures.faults);
+          (runs_more c.same_contents_answer_alike.ensures (state c.args.store.now) (state c.loop-arrival.store) (state c.handle-outcome.new.store) so_far (arrived a) r (g.met.S.JobStore.sound c.args.store.now) (g.met.S.JobStore.sound c.loop-arrival.store) c.loop-arrival.invariant.runs handled c.handle-outcome.ensures.faults);
       next = subst (λ (s : List Served). IsHonest (state c.handle-outcome.new.store) → (k : Contents) → (state c.args.store.now).holds k → AreNext k s) more
           (next_more (state c.args.store.now) (state c.loop-arrival.store) (state c.handle-outcome.new.store) so_far (arrived a) r (g.met.S.JobStore.sound c.loop-arrival.store) c.loop-arrival.invariant.runs handled.doubts c.loop-arrival.invariant.next);
       count = grind (arith, common_steps);

@@ -6,10 +6,10 @@ use Rattle.reports.proofs.blank_counts.Goals as goal
 
 pub returns-clause-answers : goal.returns-clause-answers
 returns-clause-answers g c = λ h k held.
-    let early : IsHonest (g.S.JobStore.state c.product.new.self) = omega (arith, c.blank_totals.ensures.stays.doubts, h) in
+    let early : IsHonest (g.S.JobStore.state c.product.new.self) = omega (arith, c.blank_totals.ensures.leaves.stays.doubts, h) in
     blank_answered k.facts c.args.product.now c.in-Some.field-0 c.in_ok-totals.totals c.in_ok-blank_text.field-0 (g.met.S.JobStore.sound c.args.store.now k held).facts
     (sym (c.in_ok-product.ensures.value early k held) ∙ c.in-Some.is)
-    (c.in_ok-totals.ensures.value h k (c.product.ensures.stays.contents early k held)) c.in_ok-blank_text.ensures
+    (c.in_ok-totals.ensures.value h k (c.product.ensures.leaves.stays.contents early k held)) c.in_ok-blank_text.ensures
 
 pub returns-clause-all : goal.returns-clause-all
 returns-clause-all g c = λ k held. all_counted k.facts c.args.product.now (g.met.S.JobStore.sound c.args.store.now k held).facts

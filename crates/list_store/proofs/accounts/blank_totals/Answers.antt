@@ -8,8 +8,8 @@ use Rattle.list_store.specs.Sessions.{lots_for}
 use Rattle.list_store.proofs.AccountLemmas.{blank_totals_of}
 use Rattle.list_store.proofs.accounts.blank_totals.Goals as goal
 
-pub returns-clause-value : goal.returns-clause-value
-returns-clause-value c =
+pub returns : goal.returns
+returns c =
     let f : Facts = c.args.facts.now in
     let p : List ℕ = c.args.product.now in
     let sessions = c.deref.ensures.value ∙ ap (λ (f : Facts). f.sessions) c.facts.view_is in
@@ -18,9 +18,9 @@ returns-clause-value c =
     let discarded : List Lot → List ℕ → ℕ = λ lots blanks. count_by (λ blank. is_lot_of p (lot_of lots blank)) blanks in
     blank_totals_of f p c.in_ok-states.states.items c.count_lots.result c.in_ok-sum_lots.field-0 c.count_sessions.result c.count_sessions-2.result
     c.count_sessions-3.result c.count_discarded.result
-    (c.in_ok-states.ensures.value ∙ ap (λ (xs : List Session). map (session_state f) (filter (λ (s : Session). is_blank_of f p s.blank) xs)) sessions)
+    (c.in_ok-states.ensures ∙ ap (λ (xs : List Session). map (session_state f) (filter (λ (s : Session). is_blank_of f p s.blank) xs)) sessions)
     (c.count_lots.ensures ∙ ap count (c.deref-2.ensures.value ∙ ap (λ (f : Facts). f.lots) c.facts.view_is))
-    (c.in_ok-sum_lots.ensures.value ∙ ap sum (c.deref-3.ensures.value ∙ ap (λ (f : Facts). f.lots) c.facts.view_is))
+    (c.in_ok-sum_lots.ensures ∙ ap sum (c.deref-3.ensures.value ∙ ap (λ (f : Facts). f.lots) c.facts.view_is))
     (c.count_sessions.ensures ∙ ap (count_by is_good) c.deref-4.ensures.value)
     (c.count_sessions-2.ensures ∙ ap (count_by is_running) c.deref-5.ensures.value)
     (c.count_sessions-3.ensures ∙ ap (count_by is_spoiled) c.deref-6.ensures.value)

@@ -7,6 +7,6 @@ returns g c =
     let sound = g.met.S.JobStore.sound in
     record {
       none = λ s. leaves_none (state s) (sound s);
-      more = λ first before after tried a result left handled. leaves_more (state first) (state before) (state after) tried a result (sound first) (sound before) left handled;
+      more = λ first before after tried a result left handled. leaves_more c.same_contents_answer_alike.ensures (state first) (state before) (state after) tried a result (sound first) (sound before) left handled;
       stays = λ first before after tried left stays. leaves_stays (state first) (state before) (state after) tried left stays;
     }

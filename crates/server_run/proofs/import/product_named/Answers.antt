@@ -9,3 +9,9 @@ found (Some q) wanted is = sym is
 
 pub returns-in-Ok-clause-product : goal.returns-in-Ok-clause-product
 returns-in-Ok-clause-product g c = λ honest contents held. found c.in-Ok.product _ (c.in-Ok.ensures.value honest contents held)
+
+pub returns-in-Ok-clause-stays : goal.returns-in-Ok-clause-stays
+returns-in-Ok-clause-stays g c = c.product.ensures.leaves.stays
+
+pub returns-in-Err-clause-stays : goal.returns-in-Err-clause-stays
+returns-in-Err-clause-stays g c = c.product.ensures.leaves.stays

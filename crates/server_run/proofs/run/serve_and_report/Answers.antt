@@ -29,7 +29,7 @@ returns g c =
       all.moves,
       all.serves c.args.store (serves-begun state c.left_in_turn.ensures c.args.store c.note_opening.new.store opening.stays),
       subst (λ (n : ℕ). WritesLines closed refuses c.args.port c.args.turns n before after end.result) (sym run.ensures.served.3) lines,
-      notes-run state c.left_in_turn.ensures c.args.store c.note_opening.new.store s closed (queue c.args.connections.now) (queue run.new.connections) c.args.opened.now es
+      notes-run state c.left_in_turn.ensures c.args.store c.note_opening.new.store s closed (g.S.ServerStore.unclosed s) (queue c.args.connections.now) (queue run.new.connections) c.args.opened.now es
           run.ensures.served.1 count closing end.result c.args.events.now.level c.note_opening.new.events.level run.new.events.level (events c.args.events.now.writer)
           (events c.note_opening.new.events.writer) (events run.new.events.writer) (events end.new.events.writer) opening.noted.0 opening.stays opening.noted.1 opening.noted.2 opening.level all
           run.ensures.level run.ensures.served.3 end.ensures.noted.2 stop,

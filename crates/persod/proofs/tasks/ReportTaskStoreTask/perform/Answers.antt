@@ -13,10 +13,10 @@ returns g c =
       c.close_report.new.store,
       record {
         result = c.close_report.result;
-        stays = c.close_report.ensures.stays;
+        stays = c.close_report.ensures.leaves.stays;
         reports = c.close_report.ensures.reports;
         cause = c.close_report.ensures.cause;
-        faults = c.close_report.ensures.faults;
-        ends = (c.finish.result, c.finish.ensures.closed, subst (λ end. c.end_of_close.result ≡ end_of_close end c.finish.result) ended c.end_of_close.ensures);
+        faults = c.close_report.ensures.leaves.faults;
+        ends = (c.finish.result, c.finish.ensures.closed, c.finish.ensures.fault, subst (λ end. c.end_of_close.result ≡ end_of_close end c.finish.result) ended c.end_of_close.ensures);
       },
     )
