@@ -14,3 +14,4 @@ pub mod Ordering
 pub mod Querying
 pub mod Refusing
 pub mod Causing
+pub mod Lasting
