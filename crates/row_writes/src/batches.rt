@@ -1,10 +1,8 @@
 //! Inserts the row of a batch, in an open transaction. A crash before its commit leaves no trace of
 //! it.
 ghost use Rattle.std.specs.Prelude.{◌≡◌, ◌<◌, ◌^◌};
-ghost use Rattle.sqlite.specs.Held.{state};
-ghost use Rattle.sqlite.specs.State.{Survives};
 ghost use Rattle.sql_rows.specs.Encoding.{enc_code};
-ghost use Rattle.sql_rows.specs.Writes.{WritesRows};
+ghost use Rattle.sql_rows.specs.Writes.{Writes};
 ghost use Rattle.table_rows.specs.After.{new_batch};
 ghost use Rattle.table_rows.specs.Tables.{with_batch};
 
@@ -34,11 +32,8 @@ pub fn add_batch<'x, S: Alter>(
     records: u32,
 ) -> Result<usize, Error>
     requires { id < 2 ^ 63 }
-    ensures same_reference { tx.new.conn.ghost_name ≡ tx.old.conn.ghost_name }
-    ensures wrote { WritesRows (with_batch (new_batch id name.now product.now raw.now records))
-        (state S.Store tx.old.conn.now) (state S.Store tx.new.conn.now) result }
-    ensures survives { Survives (state S.Store tx.old.conn.now) (state S.Store tx.new.conn.now)
-        (λ _. ⊥) }
+    ensures { Writes S.Store (with_batch (new_batch id name.now product.now raw.now records))
+        tx.old.conn tx.new.conn result }
 {
     tx.execute(
         "INSERT INTO batch (id, name, product, raw, closed, waiting, running, failed, withdrawn, \

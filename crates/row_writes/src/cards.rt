@@ -1,10 +1,8 @@
 //! Writes sessions, their status words and their blanks, in an open transaction. A crash before its
 //! commit leaves no trace of them.
 ghost use Rattle.std.specs.Prelude.{◌≡◌, ◌<◌, ◌^◌};
-ghost use Rattle.sqlite.specs.Held.{state};
-ghost use Rattle.sqlite.specs.State.{Survives};
 ghost use Rattle.sql_rows.specs.Encoding.{session_code};
-ghost use Rattle.sql_rows.specs.Writes.{WritesRows};
+ghost use Rattle.sql_rows.specs.Writes.{Writes};
 ghost use Rattle.table_rows.specs.After.{new_session};
 ghost use Rattle.table_rows.specs.Tables.{StoredBlank, StoredWord, with_blank, with_session};
 ghost use Rattle.table_rows.specs.Tables.{with_session_set, with_word};
@@ -35,16 +33,12 @@ pub fn add_word<S: Alter>(
     sw: u16,
 ) -> Result<usize, Error>
     requires { session < 2 ^ 63 }
-    ensures same_reference { tx.new.conn.ghost_name ≡ tx.old.conn.ghost_name }
-    ensures wrote { let word : StoredWord = record {
+    ensures { let word : StoredWord = record {
       session = session;
       place = place;
       sw = sw;
     } in
-        WritesRows (with_word word) (state S.Store tx.old.conn.now)
-        (state S.Store tx.new.conn.now) result }
-    ensures survives { Survives (state S.Store tx.old.conn.now) (state S.Store tx.new.conn.now)
-        (λ _. ⊥) }
+        Writes S.Store (with_word word) tx.old.conn tx.new.conn result }
 {
     tx.execute(
         "INSERT INTO word (session, place, sw) VALUES (?1, ?2, ?3)",
@@ -62,11 +56,8 @@ pub fn set_session<S: Alter>(
 ) -> Result<usize, Error>
     requires session { session < 2 ^ 63 }
     requires words { words < 2 ^ 63 }
-    ensures same_reference { tx.new.conn.ghost_name ≡ tx.old.conn.ghost_name }
-    ensures wrote { WritesRows (with_session_set session stands words cursor.now)
-        (state S.Store tx.old.conn.now) (state S.Store tx.new.conn.now) result }
-    ensures survives { Survives (state S.Store tx.old.conn.now) (state S.Store tx.new.conn.now)
-        (λ _. ⊥) }
+    ensures { Writes S.Store (with_session_set session stands words cursor.now)
+        tx.old.conn tx.new.conn result }
 {
     tx.execute(
         "UPDATE session SET state = ?2, words = ?3, app = ?4, segment = ?5, at_offset = ?6, \
@@ -95,11 +86,8 @@ pub fn add_session<S: Alter>(
     requires batch { place.now.batch < 2 ^ 63 }
     requires place { place.now.place < 2 ^ 63 }
     requires blank { blank < 2 ^ 63 }
-    ensures same_reference { tx.new.conn.ghost_name ≡ tx.old.conn.ghost_name }
-    ensures wrote { WritesRows (with_session (new_session id place.now machine.now blank))
-        (state S.Store tx.old.conn.now) (state S.Store tx.new.conn.now) result }
-    ensures survives { Survives (state S.Store tx.old.conn.now) (state S.Store tx.new.conn.now)
-        (λ _. ⊥) }
+    ensures { Writes S.Store (with_session (new_session id place.now machine.now blank))
+        tx.old.conn tx.new.conn result }
 {
     tx.execute(
         "INSERT INTO session (id, machine, batch, place, serial, state, ended, words, app, \
@@ -122,16 +110,12 @@ pub fn add_blank<S: Alter>(
     discarded: bool,
 ) -> Result<usize, Error>
     requires { serial < 2 ^ 63 }
-    ensures same_reference { tx.new.conn.ghost_name ≡ tx.old.conn.ghost_name }
-    ensures wrote { let blank : StoredBlank = record {
+    ensures { let blank : StoredBlank = record {
       serial = serial;
       lot = lot.now;
       discarded = discarded;
     } in
-        WritesRows (with_blank blank) (state S.Store tx.old.conn.now)
-        (state S.Store tx.new.conn.now) result }
-    ensures survives { Survives (state S.Store tx.old.conn.now) (state S.Store tx.new.conn.now)
-        (λ _. ⊥) }
+        Writes S.Store (with_blank blank) tx.old.conn tx.new.conn result }
 {
     tx.execute(
         "INSERT INTO blank (serial, lot, kind) VALUES (?1, ?2, ?3)",

@@ -1,10 +1,7 @@
 //! Changes rows, in an open transaction. A crash before its commit leaves no trace of the change.
 ghost use Rattle.std.specs.Prelude.{◌≡◌, ◌<◌, ◌^◌};
-ghost use Rattle.sqlite.specs.Held.{state};
-ghost use Rattle.sqlite.specs.State.{HasCleanDisk, Survives};
-ghost use Rattle.sql_base.specs.Causes.{ReportsCause};
 ghost use Rattle.sql_rows.specs.Encoding.{record_code};
-ghost use Rattle.sql_rows.specs.Writes.{WritesRows};
+ghost use Rattle.sql_rows.specs.Writes.{Writes, WritesWithCause};
 ghost use Rattle.row_writes.specs.Raw.{with_raw_set};
 ghost use Rattle.table_rows.specs.Tables.{with_closed_set, with_end_set, with_lot_set};
 ghost use Rattle.table_rows.specs.Tables.{with_record_set, with_totals_set};
@@ -35,11 +32,7 @@ pub fn set_lot<S: Alter>(
     discarded: u64,
 ) -> Result<usize, Error>
     requires { discarded < 2 ^ 63 }
-    ensures same_reference { tx.new.conn.ghost_name ≡ tx.old.conn.ghost_name }
-    ensures wrote { WritesRows (with_lot_set name.now discarded) (state S.Store tx.old.conn.now)
-        (state S.Store tx.new.conn.now) result }
-    ensures survives { Survives (state S.Store tx.old.conn.now) (state S.Store tx.new.conn.now)
-        (λ _. ⊥) }
+    ensures { Writes S.Store (with_lot_set name.now discarded) tx.old.conn tx.new.conn result }
 {
     tx.execute(
         "UPDATE lot SET discarded = ?2 WHERE name = ?1",
@@ -61,11 +54,7 @@ pub fn set_totals<S: Alter>(
     requires good { totals.now.good < 2 ^ 63 }
     requires sessions { totals.now.sessions < 2 ^ 63 }
     requires spoiled { totals.now.spoiled < 2 ^ 63 }
-    ensures same_reference { tx.new.conn.ghost_name ≡ tx.old.conn.ghost_name }
-    ensures wrote { WritesRows (with_totals_set batch totals.now) (state S.Store tx.old.conn.now)
-        (state S.Store tx.new.conn.now) result }
-    ensures survives { Survives (state S.Store tx.old.conn.now) (state S.Store tx.new.conn.now)
-        (λ _. ⊥) }
+    ensures { Writes S.Store (with_totals_set batch totals.now) tx.old.conn tx.new.conn result }
 {
     tx.execute(
         "UPDATE batch SET waiting = ?2, running = ?3, failed = ?4, withdrawn = ?5, good = ?6, \
@@ -90,13 +79,7 @@ pub fn set_raw<S: Alter>(
     raw: &[u8],
 ) -> Result<usize, Error>
     requires { batch < 2 ^ 63 }
-    ensures same_reference { tx.new.conn.ghost_name ≡ tx.old.conn.ghost_name }
-    ensures wrote { WritesRows (with_raw_set batch raw.now) (state S.Store tx.old.conn.now)
-        (state S.Store tx.new.conn.now) result }
-    ensures survives { Survives (state S.Store tx.old.conn.now) (state S.Store tx.new.conn.now)
-        (λ _. ⊥) }
-    ensures cause { HasCleanDisk (state S.Store tx.new.conn.now)
-        → ReportsCause (state S.Store tx.old.conn.now) (state S.Store tx.new.conn.now) result }
+    ensures { WritesWithCause S.Store (with_raw_set batch raw.now) tx.old.conn tx.new.conn result }
 {
     tx.execute(
         "UPDATE batch SET raw = ?2 WHERE id = ?1",
@@ -106,11 +89,7 @@ pub fn set_raw<S: Alter>(
 
 /// Closes the batch `name`.
 pub fn set_closed<S: Alter>(tx: &mut Transaction<'_, S>, name: &Name) -> Result<usize, Error>
-    ensures same_reference { tx.new.conn.ghost_name ≡ tx.old.conn.ghost_name }
-    ensures wrote { WritesRows (with_closed_set name.now) (state S.Store tx.old.conn.now)
-        (state S.Store tx.new.conn.now) result }
-    ensures survives { Survives (state S.Store tx.old.conn.now) (state S.Store tx.new.conn.now)
-        (λ _. ⊥) }
+    ensures { Writes S.Store (with_closed_set name.now) tx.old.conn tx.new.conn result }
 {
     tx.execute(
         "UPDATE batch SET closed = 1 WHERE name = ?1",
@@ -132,11 +111,8 @@ pub fn set_record<S: Alter>(
     requires place { place < 2 ^ 63 }
     requires spoiled { spoiled < 2 ^ 63 }
     requires remakes { remakes < 2 ^ 63 }
-    ensures same_reference { tx.new.conn.ghost_name ≡ tx.old.conn.ghost_name }
-    ensures wrote { WritesRows (with_record_set batch place stands spoiled remakes)
-        (state S.Store tx.old.conn.now) (state S.Store tx.new.conn.now) result }
-    ensures survives { Survives (state S.Store tx.old.conn.now) (state S.Store tx.new.conn.now)
-        (λ _. ⊥) }
+    ensures { Writes S.Store (with_record_set batch place stands spoiled remakes)
+        tx.old.conn tx.new.conn result }
 {
     tx.execute(
         "UPDATE record SET state = ?3, spoiled = ?4, remakes = ?5 WHERE batch = ?1 AND place = ?2",
@@ -153,11 +129,7 @@ pub fn set_record<S: Alter>(
 /// Ends a session that was aborted or reset: the session is spoiled.
 pub fn set_end<S: Alter>(tx: &mut Transaction<'_, S>, session: u64) -> Result<usize, Error>
     requires { session < 2 ^ 63 }
-    ensures same_reference { tx.new.conn.ghost_name ≡ tx.old.conn.ghost_name }
-    ensures wrote { WritesRows (with_end_set session) (state S.Store tx.old.conn.now)
-        (state S.Store tx.new.conn.now) result }
-    ensures survives { Survives (state S.Store tx.old.conn.now) (state S.Store tx.new.conn.now)
-        (λ _. ⊥) }
+    ensures { Writes S.Store (with_end_set session) tx.old.conn tx.new.conn result }
 {
     tx.execute(
         "UPDATE session SET state = 2, ended = 1 WHERE id = ?1",

@@ -3,12 +3,10 @@
 //! them.
 ghost use Rattle.std.specs.Prelude.{◌≡◌, IfOk, length, map};
 ghost use Rattle.std.specs.List.{flat_map};
-ghost use Rattle.sqlite.specs.Held.{state};
-ghost use Rattle.sqlite.specs.State.{Survives};
 ghost use Rattle.sqlite.specs.Values.{bound};
 ghost use Rattle.sql_rows.specs.Encoding.{grouping_row, record_row};
 ghost use Rattle.sql_rows.specs.Many.{with_groupings, with_records};
-ghost use Rattle.sql_rows.specs.Writes.{WritesRows};
+ghost use Rattle.sql_rows.specs.Writes.{Writes};
 ghost use Rattle.table_rows.specs.Tables.{with_grouping, with_record};
 ghost use Rattle.row_writes.specs.FileRows.{grouping_of, record_of};
 
@@ -78,11 +76,7 @@ fn all_grouping_values(alloc: Global, rows: &[FileRow]) -> Result<Vec<ValueRef<'
 
 /// Adds a waiting record.
 pub fn add_record<S: Alter>(tx: &mut Transaction<'_, S>, it: &NewRecord) -> Result<usize, Error>
-    ensures same_reference { tx.new.conn.ghost_name ≡ tx.old.conn.ghost_name }
-    ensures wrote { WritesRows (with_record (record_of it.now))
-        (state S.Store tx.old.conn.now) (state S.Store tx.new.conn.now) result }
-    ensures survives { Survives (state S.Store tx.old.conn.now) (state S.Store tx.new.conn.now)
-        (λ _. ⊥) }
+    ensures { Writes S.Store (with_record (record_of it.now)) tx.old.conn tx.new.conn result }
 {
     tx.execute(
         "INSERT INTO record (batch, place, name, state, spoiled, remakes) \
@@ -98,11 +92,8 @@ pub fn add_records<S: Alter>(
     records: &[NewRecord],
 ) -> Result<usize, Error>
     requires { length records.now ≡ 16 }
-    ensures same_reference { tx.new.conn.ghost_name ≡ tx.old.conn.ghost_name }
-    ensures wrote { WritesRows (with_records (map record_of records.now))
-        (state S.Store tx.old.conn.now) (state S.Store tx.new.conn.now) result }
-    ensures survives { Survives (state S.Store tx.old.conn.now) (state S.Store tx.new.conn.now)
-        (λ _. ⊥) }
+    ensures { Writes S.Store (with_records (map record_of records.now))
+        tx.old.conn tx.new.conn result }
 {
     let values = all_record_values(alloc, records)?;
     tx.execute(
@@ -117,11 +108,7 @@ pub fn add_records<S: Alter>(
 
 /// Adds a row of a batch file.
 pub fn add_grouping<S: Alter>(tx: &mut Transaction<'_, S>, row: &FileRow) -> Result<usize, Error>
-    ensures same_reference { tx.new.conn.ghost_name ≡ tx.old.conn.ghost_name }
-    ensures wrote { WritesRows (with_grouping (grouping_of row.now))
-        (state S.Store tx.old.conn.now) (state S.Store tx.new.conn.now) result }
-    ensures survives { Survives (state S.Store tx.old.conn.now) (state S.Store tx.new.conn.now)
-        (λ _. ⊥) }
+    ensures { Writes S.Store (with_grouping (grouping_of row.now)) tx.old.conn tx.new.conn result }
 {
     tx.execute(
         "INSERT INTO grouping2 (batch, line, place, aid, rank, enc, tol, coded) \
@@ -137,11 +124,8 @@ pub fn add_groupings<S: Alter>(
     rows: &[FileRow],
 ) -> Result<usize, Error>
     requires { length rows.now ≡ 16 }
-    ensures same_reference { tx.new.conn.ghost_name ≡ tx.old.conn.ghost_name }
-    ensures wrote { WritesRows (with_groupings (map grouping_of rows.now))
-        (state S.Store tx.old.conn.now) (state S.Store tx.new.conn.now) result }
-    ensures survives { Survives (state S.Store tx.old.conn.now) (state S.Store tx.new.conn.now)
-        (λ _. ⊥) }
+    ensures { Writes S.Store (with_groupings (map grouping_of rows.now))
+        tx.old.conn tx.new.conn result }
 {
     let values = all_grouping_values(alloc, rows)?;
     tx.execute(

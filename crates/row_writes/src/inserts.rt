@@ -1,10 +1,7 @@
 //! Inserts single rows, in an open transaction. A crash before its commit leaves no trace of them.
-ghost use Rattle.std.specs.Prelude.{◌≡◌, ◌<◌, ◌^◌};
-ghost use Rattle.sqlite.specs.Held.{state};
-ghost use Rattle.sqlite.specs.State.{HasCleanDisk, Survives};
+ghost use Rattle.std.specs.Prelude.{◌<◌, ◌^◌};
 ghost use Rattle.job_facts.specs.Contents.{Mark};
-ghost use Rattle.sql_base.specs.Causes.{ReportsCause};
-ghost use Rattle.sql_rows.specs.Writes.{WritesRows};
+ghost use Rattle.sql_rows.specs.Writes.{Writes, WritesWithCause};
 ghost use Rattle.table_rows.specs.After.{new_lot};
 ghost use Rattle.table_rows.specs.Kept.{kept_reply};
 ghost use Rattle.table_rows.specs.Tables.{StoredRemake, with_lot, with_mark, with_product};
@@ -19,11 +16,7 @@ use table_rows::Entry;
 
 /// Adds a product.
 pub fn add_product<S: Alter>(tx: &mut Transaction<'_, S>, product: &Product) -> Result<usize, Error>
-    ensures same_reference { tx.new.conn.ghost_name ≡ tx.old.conn.ghost_name }
-    ensures wrote { WritesRows (with_product product.now) (state S.Store tx.old.conn.now)
-        (state S.Store tx.new.conn.now) result }
-    ensures survives { Survives (state S.Store tx.old.conn.now) (state S.Store tx.new.conn.now)
-        (λ _. ⊥) }
+    ensures { Writes S.Store (with_product product.now) tx.old.conn tx.new.conn result }
 {
     tx.execute(
         "INSERT INTO product (name, max, low, checked) VALUES (?1, ?2, ?3, ?4)",
@@ -39,11 +32,7 @@ pub fn add_product<S: Alter>(tx: &mut Transaction<'_, S>, product: &Product) -> 
 /// Adds a lot without discarded blanks.
 pub fn add_lot<S: Alter>(tx: &mut Transaction<'_, S>, lot: &Lot) -> Result<usize, Error>
     requires { lot.now.first < 2 ^ 63 }
-    ensures same_reference { tx.new.conn.ghost_name ≡ tx.old.conn.ghost_name }
-    ensures wrote { WritesRows (with_lot (new_lot lot.now)) (state S.Store tx.old.conn.now)
-        (state S.Store tx.new.conn.now) result }
-    ensures survives { Survives (state S.Store tx.old.conn.now) (state S.Store tx.new.conn.now)
-        (λ _. ⊥) }
+    ensures { Writes S.Store (with_lot (new_lot lot.now)) tx.old.conn tx.new.conn result }
 {
     tx.execute(
         "INSERT INTO lot (name, product, low_serial, amount, discarded) \
@@ -67,18 +56,12 @@ pub fn add_remake<S: Alter>(
     requires batch { batch < 2 ^ 63 }
     requires place { place < 2 ^ 63 }
     requires turn { turn < 2 ^ 63 }
-    ensures same_reference { tx.new.conn.ghost_name ≡ tx.old.conn.ghost_name }
-    ensures wrote { let row : StoredRemake = record {
+    ensures { let row : StoredRemake = record {
       batch = batch;
       place = place;
       turn = turn;
     } in
-        WritesRows (with_remake row) (state S.Store tx.old.conn.now)
-        (state S.Store tx.new.conn.now) result }
-    ensures survives { Survives (state S.Store tx.old.conn.now) (state S.Store tx.new.conn.now)
-        (λ _. ⊥) }
-    ensures cause { HasCleanDisk (state S.Store tx.new.conn.now)
-        → ReportsCause (state S.Store tx.old.conn.now) (state S.Store tx.new.conn.now) result }
+        WritesWithCause S.Store (with_remake row) tx.old.conn tx.new.conn result }
 {
     tx.execute(
         "INSERT INTO remake (batch, place, turn) VALUES (?1, ?2, ?3)",
@@ -89,11 +72,7 @@ pub fn add_remake<S: Alter>(
 /// Adds a kept reply.
 pub fn add_reply<S: Alter>(tx: &mut Transaction<'_, S>, entry: &Entry<'_>) -> Result<usize, Error>
     requires { entry.now.number < 2 ^ 63 }
-    ensures same_reference { tx.new.conn.ghost_name ≡ tx.old.conn.ghost_name }
-    ensures wrote { WritesRows (with_reply (kept_reply entry.now)) (state S.Store tx.old.conn.now)
-        (state S.Store tx.new.conn.now) result }
-    ensures survives { Survives (state S.Store tx.old.conn.now) (state S.Store tx.new.conn.now)
-        (λ _. ⊥) }
+    ensures { Writes S.Store (with_reply (kept_reply entry.now)) tx.old.conn tx.new.conn result }
 {
     tx.execute(
         "INSERT INTO reply (client, number, ask, status, body) VALUES (?1, ?2, ?3, ?4, ?5)",
@@ -114,12 +93,8 @@ pub fn add_mark<S: Alter>(
     upto: u64,
 ) -> Result<usize, Error>
     requires { upto < 2 ^ 63 }
-    ensures same_reference { tx.new.conn.ghost_name ≡ tx.old.conn.ghost_name }
-    ensures wrote { let mark : Mark = record { client = client.now; upto = upto } in
-        WritesRows (with_mark mark) (state S.Store tx.old.conn.now)
-        (state S.Store tx.new.conn.now) result }
-    ensures survives { Survives (state S.Store tx.old.conn.now) (state S.Store tx.new.conn.now)
-        (λ _. ⊥) }
+    ensures { let mark : Mark = record { client = client.now; upto = upto } in
+        Writes S.Store (with_mark mark) tx.old.conn tx.new.conn result }
 {
     tx.execute(
         "INSERT INTO mark (client, upto) VALUES (?1, ?2)",

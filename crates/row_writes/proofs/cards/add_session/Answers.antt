@@ -5,8 +5,12 @@ use Rattle.table_rows.specs.Tables.{with_session}
 use Rattle.row_writes.proofs.PuttingCards.{session_added}
 use Rattle.row_writes.proofs.cards.add_session.Goals as goal
 
-pub returns-clause-wrote : goal.returns-clause-wrote
-returns-clause-wrote g c clean =
-    let a = c.args in
-    wrote g.S.Store (Moves (with_session (new_session a.id a.place.now a.machine.now a.blank))) c.args.tx.now.conn.now c.execute.new.self.conn.now _ _ _ (session_added a.id a.place.now a.machine.now a.blank _ _) c.execute.result c.execute.ensures.ended
-    (rw (c.int.ensures, c.int-2.ensures, c.int-3.ensures, c.int-4.ensures, c.bytes.ensures.value) at (c.execute.ensures.runs clean))
+pub returns : goal.returns
+returns g c = record {
+  wrote = λ clean.
+      let a = c.args in
+      wrote g.S.Store (Moves (with_session (new_session a.id a.place.now a.machine.now a.blank))) c.args.tx.now.conn.now c.execute.new.self.conn.now _ _ _ (session_added a.id a.place.now a.machine.now a.blank _ _) c.execute.result c.execute.ensures.ended
+      (rw (c.int.ensures, c.int-2.ensures, c.int-3.ensures, c.int-4.ensures, c.bytes.ensures.value) at (c.execute.ensures.runs clean));
+  same_reference = c.execute.ensures.same_reference;
+  survives = c.execute.ensures.survives;
+}

@@ -7,9 +7,13 @@ use Rattle.row_writes.specs.FileRows.{record_of}
 use Rattle.row_writes.proofs.PuttingFileRows.{records_added}
 use Rattle.row_writes.proofs.file_rows.add_records.Goals as goal
 
-pub returns-clause-wrote : goal.returns-clause-wrote
-returns-clause-wrote g c clean =
-    let xs = map record_of c.args.records.now in
-    wrote g.S.Store (Moves (with_records xs)) c.args.tx.now.conn.now c.execute.new.self.conn.now _ _ _
-    (records_added xs (length-map c.args.records.now record_of ∙ c.requires) _ _) c.execute.result c.execute.ensures.ended
-    (rw (c.deref.ensures.value, c.in_ok-values.ensures) at (c.execute.ensures.runs clean))
+pub returns : goal.returns
+returns g c = record {
+  wrote = λ clean.
+      let xs = map record_of c.args.records.now in
+      wrote g.S.Store (Moves (with_records xs)) c.args.tx.now.conn.now c.execute.new.self.conn.now _ _ _
+      (records_added xs (length-map c.args.records.now record_of ∙ c.requires) _ _) c.execute.result c.execute.ensures.ended
+      (rw (c.deref.ensures.value, c.in_ok-values.ensures) at (c.execute.ensures.runs clean));
+  same_reference = c.execute.ensures.same_reference;
+  survives = c.execute.ensures.survives;
+}

@@ -5,8 +5,12 @@ use Rattle.table_rows.specs.Tables.{with_lot}
 use Rattle.row_writes.proofs.Putting.{lot_added}
 use Rattle.row_writes.proofs.inserts.add_lot.Goals as goal
 
-pub returns-clause-wrote : goal.returns-clause-wrote
-returns-clause-wrote g c clean =
-    let l = c.args.lot.now in
-    wrote g.S.Store (Moves (with_lot (new_lot l))) c.args.tx.now.conn.now c.execute.new.self.conn.now _ _ _ (λ count. lot_added _ _ l count) c.execute.result c.execute.ensures.ended
-    (rw (c.int.ensures, c.int-2.ensures, c.from.ensures, c.bytes.ensures.value, c.bytes-2.ensures.value) at (c.execute.ensures.runs clean))
+pub returns : goal.returns
+returns g c = record {
+  wrote = λ clean.
+      let l = c.args.lot.now in
+      wrote g.S.Store (Moves (with_lot (new_lot l))) c.args.tx.now.conn.now c.execute.new.self.conn.now _ _ _ (λ count. lot_added _ _ l count) c.execute.result c.execute.ensures.ended
+      (rw (c.int.ensures, c.int-2.ensures, c.from.ensures, c.bytes.ensures.value, c.bytes-2.ensures.value) at (c.execute.ensures.runs clean));
+  same_reference = c.execute.ensures.same_reference;
+  survives = c.execute.ensures.survives;
+}

@@ -5,8 +5,12 @@ use Rattle.table_rows.specs.Tables.{with_mark}
 use Rattle.row_writes.proofs.Putting.{mark_added}
 use Rattle.row_writes.proofs.inserts.add_mark.Goals as goal
 
-pub returns-clause-wrote : goal.returns-clause-wrote
-returns-clause-wrote g c clean =
-    let m : Mark = record { client = c.args.client.now; upto = c.args.upto } in
-    wrote g.S.Store (Moves (with_mark m)) c.args.tx.now.conn.now c.execute.new.self.conn.now _ _ _ (λ count. mark_added _ _ m count) c.execute.result c.execute.ensures.ended
-    (rw (c.int.ensures, c.bytes.ensures.value) at (c.execute.ensures.runs clean))
+pub returns : goal.returns
+returns g c = record {
+  wrote = λ clean.
+      let m : Mark = record { client = c.args.client.now; upto = c.args.upto } in
+      wrote g.S.Store (Moves (with_mark m)) c.args.tx.now.conn.now c.execute.new.self.conn.now _ _ _ (λ count. mark_added _ _ m count) c.execute.result c.execute.ensures.ended
+      (rw (c.int.ensures, c.bytes.ensures.value) at (c.execute.ensures.runs clean));
+  same_reference = c.execute.ensures.same_reference;
+  survives = c.execute.ensures.survives;
+}
