@@ -1,9 +1,7 @@
 //! Writes sessions, their status words and blanks, in an open transaction. A crash before its
 //! commit leaves no trace of them.
-ghost use Rattle.std.specs.Prelude.{◌≡◌, ◌+◌, ◌<◌, ◌^◌};
-ghost use Rattle.sqlite.specs.Held.{state};
-ghost use Rattle.sqlite.specs.State.{Survives};
-ghost use Rattle.sql_rows.specs.Writes.{WritesRows};
+ghost use Rattle.std.specs.Prelude.{◌+◌, ◌<◌, ◌^◌};
+ghost use Rattle.sql_rows.specs.Writes.{Writes};
 ghost use Rattle.table_rows.specs.After.{rows_after, session_rows_after, word_rows_after};
 ghost use Rattle.table_rows.specs.declared.writing.Writing.TheVariants as writing;
 ghost use Rattle.change_writes.specs.Writable.{HasRoom};
@@ -25,11 +23,8 @@ pub(crate) fn write_opened<S: Alter>(
     requires session { session.now.number < 2 ^ 63 }
     requires blank { session.now.blank < 2 ^ 63 }
     requires room { HasRoom place.now }
-    ensures same_reference { tx.new.conn.ghost_name ≡ tx.old.conn.ghost_name }
-    ensures wrote { WritesRows (session_rows_after session.now place.now)
-        (state S.Store tx.old.conn.now) (state S.Store tx.new.conn.now) result }
-    ensures survives { Survives (state S.Store tx.old.conn.now) (state S.Store tx.new.conn.now)
-        (λ _. ⊥) }
+    ensures { Writes S.Store (session_rows_after session.now place.now)
+        tx.old.conn tx.new.conn result }
 {
     add_session(tx, session.number, place, &session.machine, session.blank)?;
     add_blank(tx, session.blank, &session.lot, false)?;
@@ -44,11 +39,7 @@ pub(crate) fn write_word<S: Alter>(
     stands: SessionState,
 ) -> Result<usize, Error>
     requires { word.now.session < 2 ^ 63 }
-    ensures same_reference { tx.new.conn.ghost_name ≡ tx.old.conn.ghost_name }
-    ensures wrote { WritesRows (word_rows_after word.now stands) (state S.Store tx.old.conn.now)
-        (state S.Store tx.new.conn.now) result }
-    ensures survives { Survives (state S.Store tx.old.conn.now) (state S.Store tx.new.conn.now)
-        (λ _. ⊥) }
+    ensures { Writes S.Store (word_rows_after word.now stands) tx.old.conn tx.new.conn result }
 {
     add_word(tx, word.session, word.index, word.sw)?;
     let words = u64::from(word.index) + 1;
@@ -64,12 +55,8 @@ pub(crate) fn write_last_word<S: Alter>(
 ) -> Result<usize, Error>
     requires session { word.now.session < 2 ^ 63 }
     requires room { HasRoom place.now }
-    ensures same_reference { tx.new.conn.ghost_name ≡ tx.old.conn.ghost_name }
-    ensures wrote { let last = writing.AddsLastWord word.now stands place.now in
-        WritesRows (rows_after last) (state S.Store tx.old.conn.now)
-        (state S.Store tx.new.conn.now) result }
-    ensures survives { Survives (state S.Store tx.old.conn.now) (state S.Store tx.new.conn.now)
-        (λ _. ⊥) }
+    ensures { let last = writing.AddsLastWord word.now stands place.now in
+        Writes S.Store (rows_after last) tx.old.conn tx.new.conn result }
 {
     write_word(tx, word, stands)?;
     write_stop(tx, place, stands)
@@ -83,11 +70,8 @@ pub(crate) fn write_end<S: Alter>(
 ) -> Result<usize, Error>
     requires session { session < 2 ^ 63 }
     requires room { HasRoom place.now }
-    ensures same_reference { tx.new.conn.ghost_name ≡ tx.old.conn.ghost_name }
-    ensures wrote { WritesRows (rows_after (writing.Ends session place.now))
-        (state S.Store tx.old.conn.now) (state S.Store tx.new.conn.now) result }
-    ensures survives { Survives (state S.Store tx.old.conn.now) (state S.Store tx.new.conn.now)
-        (λ _. ⊥) }
+    ensures { Writes S.Store (rows_after (writing.Ends session place.now))
+        tx.old.conn tx.new.conn result }
 {
     set_end(tx, session)?;
     write_spoiled(tx, place)
@@ -102,11 +86,8 @@ pub(crate) fn write_discard<S: Alter>(
 ) -> Result<usize, Error>
     requires blank { blank < 2 ^ 63 }
     requires discarded { discarded + 1 < 2 ^ 63 }
-    ensures same_reference { tx.new.conn.ghost_name ≡ tx.old.conn.ghost_name }
-    ensures wrote { WritesRows (rows_after (writing.Discards blank lot.now discarded))
-        (state S.Store tx.old.conn.now) (state S.Store tx.new.conn.now) result }
-    ensures survives { Survives (state S.Store tx.old.conn.now) (state S.Store tx.new.conn.now)
-        (λ _. ⊥) }
+    ensures { Writes S.Store (rows_after (writing.Discards blank lot.now discarded))
+        tx.old.conn tx.new.conn result }
 {
     add_blank(tx, blank, lot, true)?;
     set_lot(tx, lot, discarded + 1)

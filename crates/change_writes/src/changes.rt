@@ -1,9 +1,6 @@
 //! Executes the statements of a write, in an open transaction. A crash before its commit leaves no
 //! trace of them.
-ghost use Rattle.std.specs.Prelude.{◌≡◌};
-ghost use Rattle.sqlite.specs.Held.{state};
-ghost use Rattle.sqlite.specs.State.{Survives};
-ghost use Rattle.sql_rows.specs.Many.{WritesMany};
+ghost use Rattle.sql_rows.specs.Many.{WritesInParts};
 ghost use Rattle.table_rows.specs.After.{rows_after};
 ghost use Rattle.change_writes.specs.Writable.{IsWritable};
 
@@ -25,11 +22,7 @@ pub(crate) fn write_change<S: Alter>(
     writing: &Writing<'_>,
 ) -> Result<usize, Error>
     requires { IsWritable writing.now }
-    ensures same_reference { tx.new.conn.ghost_name ≡ tx.old.conn.ghost_name }
-    ensures wrote { WritesMany (rows_after writing.now) (state S.Store tx.old.conn.now)
-        (state S.Store tx.new.conn.now) result }
-    ensures survives { Survives (state S.Store tx.old.conn.now) (state S.Store tx.new.conn.now)
-        (λ _. ⊥) }
+    ensures { WritesInParts S.Store (rows_after writing.now) tx.old.conn tx.new.conn result }
 {
     match writing {
         Writing::Nothing => Ok(0),

@@ -4,7 +4,7 @@ ghost use Rattle.sqlite.specs.Held.{state};
 ghost use Rattle.sqlite.specs.State.{HasCleanDisk, Survives};
 ghost use Rattle.sql_base.specs.Ends.{Ends, IsKept, IsLeft};
 ghost use Rattle.sql_rows.specs.Image.{Moves};
-ghost use Rattle.sql_rows.specs.Writes.{WritesRows};
+ghost use Rattle.sql_rows.specs.Writes.{Writes};
 ghost use Rattle.table_rows.specs.After.{rows_written};
 ghost use Rattle.table_rows.specs.Kept.{kept_reply};
 ghost use Rattle.change_writes.specs.Writable.{IsWritable};
@@ -26,11 +26,8 @@ fn write_all<S: Alter>(
 ) -> Result<usize, Error>
     requires most { entry.now.number < 10 ^ 18 }
     requires writing { IsWritable writing.now }
-    ensures same_reference { tx.new.conn.ghost_name ≡ tx.old.conn.ghost_name }
-    ensures wrote { WritesRows (rows_written writing.now (kept_reply entry.now))
-        (state S.Store tx.old.conn.now) (state S.Store tx.new.conn.now) result }
-    ensures survives { Survives (state S.Store tx.old.conn.now) (state S.Store tx.new.conn.now)
-        (λ _. ⊥) }
+    ensures { Writes S.Store (rows_written writing.now (kept_reply entry.now))
+        tx.old.conn tx.new.conn result }
 {
     write_change(tx, alloc, writing)?;
     add_reply(tx, entry)

@@ -2,15 +2,13 @@
 ghost use Rattle.std.specs.Prelude.{◌≡◌, ◌<◌, ◌^◌, ◌++◌, ℕ, Bool, List, []};
 ghost use Rattle.std.specs.Prelude.{IfOk, Ok, OnOk, bytes_eq, length, map};
 ghost use Rattle.std.specs.List.{position_or_len};
-ghost use Rattle.sqlite.specs.Held.{state};
-ghost use Rattle.sqlite.specs.State.{Survives};
 ghost use Rattle.store_data.specs.Groups.{with_key};
 ghost use Rattle.store_data.specs.declared.row.Row.{Row as RowValue};
 ghost use Rattle.batch_import.specs.Batch.{coming_of, no_more};
 ghost use Rattle.batch_import.specs.Rows.{TakesRow};
 ghost use Rattle.sql_rows.specs.Image.{Moves};
-ghost use Rattle.sql_rows.specs.Many.{WritesMany, with_groupings, with_records};
-ghost use Rattle.sql_rows.specs.Writes.{WritesRows};
+ghost use Rattle.sql_rows.specs.Many.{WritesInParts, with_groupings, with_records};
+ghost use Rattle.sql_rows.specs.Writes.{Writes};
 ghost use Rattle.table_rows.specs.After.{batch_rows_after, rows_after};
 ghost use Rattle.table_rows.specs.Tables.{with_grouping, with_record};
 ghost use Rattle.table_rows.specs.declared.writing.Writing.TheVariants as writing;
@@ -49,11 +47,8 @@ pub(crate) fn write_batch<S: Alter>(
     batch: &NewBatch<'_>,
 ) -> Result<usize, Error>
     requires { batch.now.number < 2 ^ 63 }
-    ensures same_reference { tx.new.conn.ghost_name ≡ tx.old.conn.ghost_name }
-    ensures wrote { WritesRows (rows_after (writing.AddsBatch batch.now))
-        (state S.Store tx.old.conn.now) (state S.Store tx.new.conn.now) result }
-    ensures survives { Survives (state S.Store tx.old.conn.now) (state S.Store tx.new.conn.now)
-        (λ _. ⊥) }
+    ensures { Writes S.Store (rows_after (writing.AddsBatch batch.now))
+        tx.old.conn tx.new.conn result }
 {
     write_bare(tx, alloc, batch)?;
     set_raw(tx, batch.number, batch.raw)
@@ -66,13 +61,10 @@ fn write_bare<S: Alter>(
     batch: &NewBatch<'_>,
 ) -> Result<(), Error>
     requires { batch.now.number < 2 ^ 63 }
-    ensures same_reference { tx.new.conn.ghost_name ≡ tx.old.conn.ghost_name }
-    ensures wrote { let b = batch.now in
+    ensures { let b = batch.now in
         let rows = (coming_of b.product.check b.raw.now).rows in
-        WritesRows (batch_rows_after b.number b.name b.product.code [] b.records rows)
-        (state S.Store tx.old.conn.now) (state S.Store tx.new.conn.now) result }
-    ensures survives { Survives (state S.Store tx.old.conn.now) (state S.Store tx.new.conn.now)
-        (λ _. ⊥) }
+        Writes S.Store (batch_rows_after b.number b.name b.product.code [] b.records rows)
+        tx.old.conn tx.new.conn result }
 {
     let number = batch.number;
     let product = &batch.product;
@@ -99,12 +91,8 @@ fn add_rows<S: Alter>(
     raw: &[u8],
 ) -> Result<(), Error>
     requires { batch < 2 ^ 63 }
-    ensures same_reference { tx.new.conn.ghost_name ≡ tx.old.conn.ghost_name }
-    ensures wrote { let rows = (coming_of product.now.check raw.now).rows in
-        WritesMany (with_file_rows batch rows) (state S.Store tx.old.conn.now)
-        (state S.Store tx.new.conn.now) result }
-    ensures survives { Survives (state S.Store tx.old.conn.now) (state S.Store tx.new.conn.now)
-        (λ _. ⊥) }
+    ensures { let rows = (coming_of product.now.check raw.now).rows in
+        WritesInParts S.Store (with_file_rows batch rows) tx.old.conn tx.new.conn result }
 {
     let mut names = IndexSet::new(alloc);
     let mut line = FIRST_DATA_ROW;
@@ -198,11 +186,8 @@ fn place_of(
 
 // Adds the records for new names, and then the rows that refer to them.
 fn add_next<S: Alter>(tx: &mut Transaction<'_, S>, alloc: Global, next: &Next) -> Result<(), Error>
-    ensures same_reference { tx.new.conn.ghost_name ≡ tx.old.conn.ghost_name }
-    ensures wrote { WritesMany (with_next next.now.rows.items next.now.records.items)
-        (state S.Store tx.old.conn.now) (state S.Store tx.new.conn.now) result }
-    ensures survives { Survives (state S.Store tx.old.conn.now) (state S.Store tx.new.conn.now)
-        (λ _. ⊥) }
+    ensures { WritesInParts S.Store (with_next next.now.rows.items next.now.records.items)
+        tx.old.conn tx.new.conn result }
 {
     add_new_records(tx, alloc, &next.records)?;
     add_file_rows(tx, alloc, &next.rows)
@@ -214,11 +199,8 @@ fn add_new_records<S: Alter>(
     alloc: Global,
     records: &[NewRecord],
 ) -> Result<(), Error>
-    ensures same_reference { tx.new.conn.ghost_name ≡ tx.old.conn.ghost_name }
-    ensures wrote { WritesMany (with_records (map record_of records.now))
-        (state S.Store tx.old.conn.now) (state S.Store tx.new.conn.now) result }
-    ensures survives { Survives (state S.Store tx.old.conn.now) (state S.Store tx.new.conn.now)
-        (λ _. ⊥) }
+    ensures { WritesInParts S.Store (with_records (map record_of records.now))
+        tx.old.conn tx.new.conn result }
 {
     if records.len() == ROWS_AT_ONCE {
         add_records(tx, alloc, records)?;
@@ -233,11 +215,8 @@ fn add_file_rows<S: Alter>(
     alloc: Global,
     rows: &[FileRow],
 ) -> Result<(), Error>
-    ensures same_reference { tx.new.conn.ghost_name ≡ tx.old.conn.ghost_name }
-    ensures wrote { WritesMany (with_groupings (map grouping_of rows.now))
-        (state S.Store tx.old.conn.now) (state S.Store tx.new.conn.now) result }
-    ensures survives { Survives (state S.Store tx.old.conn.now) (state S.Store tx.new.conn.now)
-        (λ _. ⊥) }
+    ensures { WritesInParts S.Store (with_groupings (map grouping_of rows.now))
+        tx.old.conn tx.new.conn result }
 {
     if rows.len() == ROWS_AT_ONCE {
         add_groupings(tx, alloc, rows)?;

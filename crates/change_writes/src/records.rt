@@ -1,13 +1,11 @@
 //! Changes the state of a record, in an open transaction. A crash before its commit leaves no trace
 //! of the change.
-ghost use Rattle.std.specs.Prelude.{◌≡◌, ◌^◌};
-ghost use Rattle.sqlite.specs.Held.{state};
-ghost use Rattle.sqlite.specs.State.{Survives};
+ghost use Rattle.std.specs.Prelude.{◌^◌};
 ghost use Rattle.job_facts.specs.declared.facts.SessionState.TheVariants as session;
-ghost use Rattle.sql_rows.specs.Writes.{WritesRows};
+ghost use Rattle.sql_rows.specs.Writes.{Writes};
 ghost use Rattle.table_rows.specs.After.{passed, record_after, rows_after, stopped};
 ghost use Rattle.table_rows.specs.declared.writing.Writing.TheVariants as writing;
-ghost use Rattle.sql_rows.specs.Many.{WritesMany};
+ghost use Rattle.sql_rows.specs.Many.{WritesInParts};
 ghost use Rattle.change_writes.specs.Writable.{HasRoom, IsPlacedBelow};
 
 use crate::counters::{passed, spoiled};
@@ -23,12 +21,9 @@ pub(crate) fn write_record<S: Alter>(
     stands: RecordState,
 ) -> Result<usize, Error>
     requires { IsPlacedBelow (2 ^ 63) place.now }
-    ensures same_reference { tx.new.conn.ghost_name ≡ tx.old.conn.ghost_name }
-    ensures wrote { let p = place.now in
-        WritesRows (record_after p stands p.spoiled p.remakes p.totals)
-        (state S.Store tx.old.conn.now) (state S.Store tx.new.conn.now) result }
-    ensures survives { Survives (state S.Store tx.old.conn.now) (state S.Store tx.new.conn.now)
-        (λ _. ⊥) }
+    ensures { let p = place.now in
+        Writes S.Store (record_after p stands p.spoiled p.remakes p.totals)
+        tx.old.conn tx.new.conn result }
 {
     set_record(
         tx,
@@ -50,11 +45,7 @@ pub(crate) fn write_passed<S: Alter>(
     stands: RecordState,
 ) -> Result<usize, Error>
     requires { HasRoom place.now }
-    ensures same_reference { tx.new.conn.ghost_name ≡ tx.old.conn.ghost_name }
-    ensures wrote { WritesRows (passed place.now was stands) (state S.Store tx.old.conn.now)
-        (state S.Store tx.new.conn.now) result }
-    ensures survives { Survives (state S.Store tx.old.conn.now) (state S.Store tx.new.conn.now)
-        (λ _. ⊥) }
+    ensures { Writes S.Store (passed place.now was stands) tx.old.conn tx.new.conn result }
 {
     let totals = passed(was, stands, &place.totals);
     write_record(tx, &RecordPlace { totals, ..*place }, stands)
@@ -66,11 +57,7 @@ pub(crate) fn write_spoiled<S: Alter>(
     place: &RecordPlace,
 ) -> Result<usize, Error>
     requires { HasRoom place.now }
-    ensures same_reference { tx.new.conn.ghost_name ≡ tx.old.conn.ghost_name }
-    ensures wrote { WritesRows (stopped place.now session.Spoiled) (state S.Store tx.old.conn.now)
-        (state S.Store tx.new.conn.now) result }
-    ensures survives { Survives (state S.Store tx.old.conn.now) (state S.Store tx.new.conn.now)
-        (λ _. ⊥) }
+    ensures { Writes S.Store (stopped place.now session.Spoiled) tx.old.conn tx.new.conn result }
 {
     let failed = RecordPlace {
         spoiled: place.spoiled + 1,
@@ -88,11 +75,7 @@ pub(crate) fn write_stop<S: Alter>(
     stands: SessionState,
 ) -> Result<usize, Error>
     requires { HasRoom place.now }
-    ensures same_reference { tx.new.conn.ghost_name ≡ tx.old.conn.ghost_name }
-    ensures wrote { WritesMany (stopped place.now stands) (state S.Store tx.old.conn.now)
-        (state S.Store tx.new.conn.now) result }
-    ensures survives { Survives (state S.Store tx.old.conn.now) (state S.Store tx.new.conn.now)
-        (λ _. ⊥) }
+    ensures { WritesInParts S.Store (stopped place.now stands) tx.old.conn tx.new.conn result }
 {
     match stands {
         SessionState::Running => Ok(0),
@@ -107,11 +90,8 @@ pub(crate) fn write_remake<S: Alter>(
     place: &RecordPlace,
 ) -> Result<usize, Error>
     requires { HasRoom place.now }
-    ensures same_reference { tx.new.conn.ghost_name ≡ tx.old.conn.ghost_name }
-    ensures wrote { WritesRows (rows_after (writing.Remakes place.now))
-        (state S.Store tx.old.conn.now) (state S.Store tx.new.conn.now) result }
-    ensures survives { Survives (state S.Store tx.old.conn.now) (state S.Store tx.new.conn.now)
-        (λ _. ⊥) }
+    ensures { Writes S.Store (rows_after (writing.Remakes place.now))
+        tx.old.conn tx.new.conn result }
 {
     let remade = RecordPlace {
         remakes: place.remakes + 1,

@@ -1,9 +1,7 @@
 //! Releases request numbers of a client, in an open transaction. A crash before its commit leaves
 //! no trace of the release.
-ghost use Rattle.std.specs.Prelude.{◌≡◌, ◌<◌, ◌^◌};
-ghost use Rattle.sqlite.specs.Held.{state};
-ghost use Rattle.sqlite.specs.State.{Survives};
-ghost use Rattle.sql_rows.specs.Writes.{WritesRows};
+ghost use Rattle.std.specs.Prelude.{◌<◌, ◌^◌};
+ghost use Rattle.sql_rows.specs.Writes.{Writes};
 ghost use Rattle.table_rows.specs.After.{rows_after};
 ghost use Rattle.table_rows.specs.declared.writing.Writing.TheVariants as writing;
 
@@ -18,11 +16,8 @@ pub(crate) fn write_release<S: Alter>(
     upto: u64,
 ) -> Result<usize, Error>
     requires { upto < 2 ^ 63 }
-    ensures same_reference { tx.new.conn.ghost_name ≡ tx.old.conn.ghost_name }
-    ensures wrote { WritesRows (rows_after (writing.Releases client.now upto))
-        (state S.Store tx.old.conn.now) (state S.Store tx.new.conn.now) result }
-    ensures survives { Survives (state S.Store tx.old.conn.now) (state S.Store tx.new.conn.now)
-        (λ _. ⊥) }
+    ensures { Writes S.Store (rows_after (writing.Releases client.now upto))
+        tx.old.conn tx.new.conn result }
 {
     drop_replies(tx, client, upto)?;
     drop_mark(tx, client)?;

@@ -6,6 +6,9 @@ use Rattle.change_writes.proofs.FileRows.{each_record}
 use Rattle.change_writes.proofs.Parts.{ran_each}
 use Rattle.change_writes.proofs.imports.add_new_records.Goals as goal
 
-pub returns-clause-wrote : goal.returns-clause-wrote
-returns-clause-wrote g c clean =
-    ran_each _ (Moves (with_records (map record_of c.args.records.now))) c.args.records.now _ _ c.run_each.result (each_record c.args.records.now _ _) (c.run_each.ensures.made clean)
+pub returns : goal.returns
+returns g c = record {
+  wrote = λ clean. ran_each _ (Moves (with_records (map record_of c.args.records.now))) c.args.records.now _ _ c.run_each.result (each_record c.args.records.now _ _) (c.run_each.ensures.made clean);
+  same_reference = c.run_each.ensures.same_reference;
+  survives = c.run_each.ensures.survives;
+}

@@ -3,6 +3,7 @@ use Rattle.std.proofs.lemmas.Bool.Decides.{nat_tests}
 use Rattle.sqlite.specs.State.{HasCleanDisk}
 use Rattle.sqlite.specs.Held.{state}
 use Rattle.sqlite.proofs.InsideLemmas.{keeps_then}
+use Rattle.sql_base.proofs.Lasting.{outlives}
 use Rattle.change_writes.specs.Imports.{IsImported}
 use Rattle.change_writes.proofs.FileRows.{all_imported, behind_line, imported_more, none_imported, of_file}
 use Rattle.change_writes.proofs.Parts.{failed_many}
@@ -24,29 +25,37 @@ next_rows-requires-clause-taken g c =
     let l = c.loop-stream in
     of_file v.product.now.check v.raw.now v.batch l.names.keys l.line l.stream (state g.S.Store v.tx.now.conn.now) (state g.S.Store l.tx.conn.now) l.invariant.imported
 
-pub returns-then-is_empty-clause-wrote : goal.returns-then-is_empty-clause-wrote
-returns-then-is_empty-clause-wrote g c clean =
-    let v = c.args in
-    let l = c.loop-stream in
-    let a = state g.S.Store v.tx.now.conn.now in
-    let b = state g.S.Store l.tx.conn.now in
-    let i = l.invariant.imported in
-    let next = c.in_ok-next.next in
-    let takes = c.in_ok-next.ensures.rows v.product.now.check v.raw.now i.taken i.is in
-    let empty = sym c.is_empty.ensures ∙ c.if-is_empty.true in
-    record {
-      well = all_imported v.product.now.check v.raw.now v.batch l.names.keys l.line l.stream a b i next.rows.items next.records.items c.next_rows.new.names.keys c.next_rows.new.stream takes
-          (grind (arith, nat_tests, empty, next.rows.ok)) c.in_ok-next.ensures.last clean;
-      kept = l.invariant.kept clean;
-    }
+pub returns-then-is_empty : goal.returns-then-is_empty
+returns-then-is_empty g c = record {
+  wrote = λ clean.
+      let v = c.args in
+      let l = c.loop-stream in
+      let a = state g.S.Store v.tx.now.conn.now in
+      let b = state g.S.Store l.tx.conn.now in
+      let i = l.invariant.imported in
+      let next = c.in_ok-next.next in
+      let takes = c.in_ok-next.ensures.rows v.product.now.check v.raw.now i.taken i.is in
+      let empty = sym c.is_empty.ensures ∙ c.if-is_empty.true in
+      record {
+        well = all_imported v.product.now.check v.raw.now v.batch l.names.keys l.line l.stream a b i next.rows.items next.records.items c.next_rows.new.names.keys c.next_rows.new.stream takes
+            (grind (arith, nat_tests, empty, next.rows.ok)) c.in_ok-next.ensures.last clean;
+        kept = l.invariant.kept clean;
+      };
+  same_reference = c.loop-stream.invariant.same_reference;
+  survives = c.loop-stream.invariant.survives;
+}
 
-pub returns-in_err-add_next-clause-wrote : goal.returns-in_err-add_next-clause-wrote
-returns-in_err-add_next-clause-wrote g c clean =
-    let a = state g.S.Store c.args.tx.now.conn.now in
-    let b = state g.S.Store c.loop-stream.tx.conn.now in
-    let d = state g.S.Store c.add_next.new.tx.conn.now in
-    let early : HasCleanDisk b = omega (arith, c.add_next.ensures.survives.clean) in
-    failed_many _ a d _ (search rules) (keeps_then a b d (c.loop-stream.invariant.kept early) (c.in_err-add_next.ensures.wrote clean).kept)
+pub returns-in_err-add_next : goal.returns-in_err-add_next
+returns-in_err-add_next g c = record {
+  wrote = λ clean.
+      let a = state g.S.Store c.args.tx.now.conn.now in
+      let b = state g.S.Store c.loop-stream.tx.conn.now in
+      let d = state g.S.Store c.add_next.new.tx.conn.now in
+      let early : HasCleanDisk b = omega (arith, c.add_next.ensures.survives.clean) in
+      failed_many _ a d _ (search rules) (keeps_then a b d (c.loop-stream.invariant.kept early) (c.in_err-add_next.ensures.wrote clean).kept);
+  same_reference = c.add_next.ensures.same_reference ∙ c.loop-stream.invariant.same_reference;
+  survives = outlives c.loop-stream.invariant.survives c.add_next.ensures.survives;
+}
 
 pub overflow_cast-line : goal.overflow_cast-line
 overflow_cast-line g c =
