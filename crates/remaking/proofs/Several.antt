@@ -7,10 +7,9 @@ use Rattle.std.specs.List.Sorted.{IsPermutation}
 use Rattle.std.proofs.lemmas.List.{append-nil, append_assoc}
 use Rattle.std.proofs.lemmas.List.Sorted.{IsPermutation-append_comm, IsPermutation-append_left, IsPermutation-refl, IsPermutation-trans}
 use Rattle.sqlite.specs.Effect.{Database}
-use Rattle.sqlite.specs.State.{State, Survives}
+use Rattle.sqlite.specs.State.{State}
 use Rattle.sqlite.specs.declared.error.Error.{Error}
 use Rattle.sqlite.proofs.InsideLemmas.{keeps_then}
-use Rattle.sqlite.proofs.StateLemmas.{survives_then}
 use Rattle.sql_tables.specs.Each.{Each, WroteEach}
 use Rattle.sql_rows.specs.Image.{IsImage, Moves}
 use Rattle.sql_rows.proofs.SameRows.{same_rows}
@@ -45,10 +44,6 @@ module _ (f g h : Tables → Tables) (a b c : State) (both : Moves f a.now b.now
 
 pub many_on : {X Y : Type 0} (f g : Tables → Tables) (a b c : State) (x : X) (r : Result Y Error) → WroteMany (Moves f) a b (Ok x) → WroteMany (Moves g) b c r → WroteMany (Moves (λ t. g (f t))) a c r
 many_on f g a b c = many_then f g (λ t. g (f t)) a b c (λ one two t image. two (f t) (one t image))
-
--- Two parts that each survive a crash survive it together.
-pub unharmed : {a b c : State} → Survives a b (λ _. ⊥) → Survives b c (λ _. ⊥) → Survives a c (λ _. ⊥)
-unharmed {a} {b} {c} = survives_then a b c (λ _. ⊥) (λ _. ⊥) (λ _. ⊥) (λ _ db none. absurd none) (λ _ db none. absurd none)
 
 module _ (f g : Tables → Tables) (same : (t : Tables) → HaveSameRows (f t) (g t)) (a b : State) where
   pub same_made : {X : Type 0} (r : Result X Error) → WroteMany (Moves g) a b r → WroteMany (Moves f) a b r

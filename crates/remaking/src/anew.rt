@@ -2,9 +2,9 @@
 //! transaction.
 ghost use Rattle.std.specs.Prelude.{◌≡◌, ◌++◌, ⊤, map};
 ghost use Rattle.sqlite.specs.Held.{state};
-ghost use Rattle.sqlite.specs.State.{HasCleanDisk, Survives};
-ghost use Rattle.sql_base.specs.Causes.{ReportsCause};
+ghost use Rattle.sqlite.specs.State.{HasCleanDisk};
 ghost use Rattle.sql_base.specs.Ends.{Wrote};
+ghost use Rattle.sql_base.specs.Unchanged.{LeavesNoTraceWithCause};
 ghost use Rattle.remaking.specs.Anew.{DropsAll, MakesAnew};
 ghost use Rattle.remaking.specs.Drop.{DropsTable};
 ghost use Rattle.remaking.specs.Texts.{drops_of};
@@ -72,14 +72,10 @@ impl<'a> Runs<&'a str> for Dropping {
 
 // Drops all tables of `version`.
 fn drop_all<S: Alter>(tx: &mut Transaction<'_, S>, version: Version) -> Result<(), Error>
-    ensures same_reference { tx.new.conn.ghost_name ≡ tx.old.conn.ghost_name }
     ensures made { HasCleanDisk (state S.Store tx.new.conn.now)
         → Wrote (DropsAll version) (state S.Store tx.old.conn.now)
         (state S.Store tx.new.conn.now) result }
-    ensures survives { Survives (state S.Store tx.old.conn.now) (state S.Store tx.new.conn.now)
-        (λ _. ⊥) }
-    ensures cause { HasCleanDisk (state S.Store tx.new.conn.now)
-        → ReportsCause (state S.Store tx.old.conn.now) (state S.Store tx.new.conn.now) result }
+    ensures no_trace { LeavesNoTraceWithCause S.Store tx.old.conn tx.new.conn result }
 {
     let (own, shared) = drops_of(version);
     run_both::<Dropping, &str, S>(tx, own, shared)
@@ -91,14 +87,10 @@ pub(crate) fn make_anew<S: Alter>(
     tx: &mut Transaction<'_, S>,
     version: Version,
 ) -> Result<(), Error>
-    ensures same_reference { tx.new.conn.ghost_name ≡ tx.old.conn.ghost_name }
     ensures made { HasCleanDisk (state S.Store tx.new.conn.now)
         → Wrote (MakesAnew version) (state S.Store tx.old.conn.now)
         (state S.Store tx.new.conn.now) result }
-    ensures survives { Survives (state S.Store tx.old.conn.now) (state S.Store tx.new.conn.now)
-        (λ _. ⊥) }
-    ensures cause { HasCleanDisk (state S.Store tx.new.conn.now)
-        → ReportsCause (state S.Store tx.old.conn.now) (state S.Store tx.new.conn.now) result }
+    ensures no_trace { LeavesNoTraceWithCause S.Store tx.old.conn tx.new.conn result }
 {
     drop_all(tx, version)?;
     make_all(tx)?;

@@ -1,9 +1,8 @@
 //! Sets the bytes of batches, in an open transaction. A crash before its commit leaves no trace of
 //! them.
-ghost use Rattle.std.specs.Prelude.{◌≡◌, ⊤};
+ghost use Rattle.std.specs.Prelude.{⊤};
 ghost use Rattle.sqlite.specs.Held.{state};
-ghost use Rattle.sqlite.specs.State.{HasCleanDisk, Survives};
-ghost use Rattle.sql_base.specs.Causes.{ReportsCause};
+ghost use Rattle.sql_base.specs.Unchanged.{LeavesNoTraceWithCause};
 ghost use Rattle.sql_rows.specs.Image.{Moves};
 ghost use Rattle.sql_rows.specs.Many.{WritesMany};
 ghost use Rattle.remaking.specs.Rows.{with_bytes, with_each};
@@ -36,13 +35,9 @@ pub(crate) fn set_bytes<S: Alter>(
     tx: &mut Transaction<'_, S>,
     batches: &[StoredBatch],
 ) -> Result<(), Error>
-    ensures same_reference { tx.new.conn.ghost_name ≡ tx.old.conn.ghost_name }
     ensures wrote { WritesMany (with_each with_bytes batches.now)
         (state S.Store tx.old.conn.now) (state S.Store tx.new.conn.now) result }
-    ensures survives { Survives (state S.Store tx.old.conn.now) (state S.Store tx.new.conn.now)
-        (λ _. ⊥) }
-    ensures cause { HasCleanDisk (state S.Store tx.new.conn.now)
-        → ReportsCause (state S.Store tx.old.conn.now) (state S.Store tx.new.conn.now) result }
+    ensures no_trace { LeavesNoTraceWithCause S.Store tx.old.conn tx.new.conn result }
 {
     run_each::<Bytes, StoredBatch, S>(tx, batches)
 }

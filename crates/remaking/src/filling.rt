@@ -1,9 +1,9 @@
 //! Inserts the rows of all tables, in an open transaction. A crash before its commit leaves no
 //! trace of them.
-ghost use Rattle.std.specs.Prelude.{◌≡◌, OnOk};
+ghost use Rattle.std.specs.Prelude.{OnOk};
 ghost use Rattle.sqlite.specs.Held.{state};
-ghost use Rattle.sqlite.specs.State.{HasCleanDisk, Survives};
-ghost use Rattle.sql_base.specs.Causes.{ReportsCause};
+ghost use Rattle.sqlite.specs.State.{HasCleanDisk};
+ghost use Rattle.sql_base.specs.Unchanged.{LeavesNoTraceWithCause};
 ghost use Rattle.sql_rows.specs.Image.{IsImage};
 ghost use Rattle.table_rows.specs.Tables.{no_rows};
 ghost use Rattle.sql_rows.specs.Many.{WritesMany};
@@ -23,16 +23,12 @@ use table_rows::Tables;
 /// - the error of SQLite if a table doesn't accept a row
 /// - any other error of the database, including out of memory
 pub(crate) fn fill<S: Alter>(tx: &mut Transaction<'_, S>, tables: &Tables) -> Result<(), Error>
-    ensures same_reference { tx.new.conn.ghost_name ≡ tx.old.conn.ghost_name }
     ensures wrote { WritesMany (with_all tables.now) (state S.Store tx.old.conn.now)
         (state S.Store tx.new.conn.now) result }
     ensures alone { HasCleanDisk (state S.Store tx.new.conn.now)
         → OnOk result (IsImage no_rows (state S.Store tx.old.conn.now).now
         → IsImage tables.now (state S.Store tx.new.conn.now).now) }
-    ensures survives { Survives (state S.Store tx.old.conn.now) (state S.Store tx.new.conn.now)
-        (λ _. ⊥) }
-    ensures cause { HasCleanDisk (state S.Store tx.new.conn.now)
-        → ReportsCause (state S.Store tx.old.conn.now) (state S.Store tx.new.conn.now) result }
+    ensures no_trace { LeavesNoTraceWithCause S.Store tx.old.conn tx.new.conn result }
 {
     fill_bare(tx, tables)?;
     set_bytes(tx, tables.batches.as_slice())
@@ -40,13 +36,9 @@ pub(crate) fn fill<S: Alter>(tx: &mut Transaction<'_, S>, tables: &Tables) -> Re
 
 // Inserts the rows of all tables, without the bytes of batches.
 fn fill_bare<S: Alter>(tx: &mut Transaction<'_, S>, tables: &Tables) -> Result<(), Error>
-    ensures same_reference { tx.new.conn.ghost_name ≡ tx.old.conn.ghost_name }
     ensures wrote { WritesMany (with_all (without_bytes tables.now)) (state S.Store tx.old.conn.now)
         (state S.Store tx.new.conn.now) result }
-    ensures survives { Survives (state S.Store tx.old.conn.now) (state S.Store tx.new.conn.now)
-        (λ _. ⊥) }
-    ensures cause { HasCleanDisk (state S.Store tx.new.conn.now)
-        → ReportsCause (state S.Store tx.old.conn.now) (state S.Store tx.new.conn.now) result }
+    ensures no_trace { LeavesNoTraceWithCause S.Store tx.old.conn tx.new.conn result }
 {
     put_all(tx, tables.products.as_slice())?;
     put_all(tx, tables.lots.as_slice())?;

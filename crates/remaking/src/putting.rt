@@ -1,9 +1,8 @@
 //! Inserts a row or a list of rows, in an open transaction. A crash before its commit leaves no
 //! trace of them.
-ghost use Rattle.std.specs.Prelude.{◌≡◌, ◌<◌, ◌^◌, ⊤, IsTrue};
+ghost use Rattle.std.specs.Prelude.{◌<◌, ◌^◌, ⊤, IsTrue};
 ghost use Rattle.sqlite.specs.Held.{state};
-ghost use Rattle.sqlite.specs.State.{HasCleanDisk, Survives};
-ghost use Rattle.sql_base.specs.Causes.{ReportsCause};
+ghost use Rattle.sql_base.specs.Unchanged.{LeavesNoTraceWithCause};
 ghost use Rattle.sql_rows.specs.Writes.{WritesRows};
 ghost use Rattle.table_rows.specs.Tables.{Tables};
 ghost use Rattle.sql_rows.specs.Image.{Moves};
@@ -34,14 +33,9 @@ pub(crate) trait Put {
 
     /// Inserts the row. Returns `InvalidQuery` if a number is 2^63 or higher.
     fn put<S: Alter>(&self, tx: &mut Transaction<'_, S>) -> Result<usize, Error>
-        ensures same_reference { tx.new.conn.ghost_name ≡ tx.old.conn.ghost_name }
         ensures wrote { WritesRows (with_row self.now) (state S.Store tx.old.conn.now)
             (state S.Store tx.new.conn.now) result }
-        ensures survives { Survives (state S.Store tx.old.conn.now)
-            (state S.Store tx.new.conn.now) (λ _. ⊥) }
-        ensures cause { HasCleanDisk (state S.Store tx.new.conn.now)
-            → ReportsCause (state S.Store tx.old.conn.now)
-            (state S.Store tx.new.conn.now) result };
+        ensures no_trace { LeavesNoTraceWithCause S.Store tx.old.conn tx.new.conn result };
 }
 
 // The statements that insert rows.
@@ -62,13 +56,9 @@ pub(crate) fn put_all<T: Put, S: Alter>(
     tx: &mut Transaction<'_, S>,
     rows: &[T],
 ) -> Result<(), Error>
-    ensures same_reference { tx.new.conn.ghost_name ≡ tx.old.conn.ghost_name }
     ensures wrote { WritesMany (with_each T.with_row rows.now) (state S.Store tx.old.conn.now)
         (state S.Store tx.new.conn.now) result }
-    ensures survives { Survives (state S.Store tx.old.conn.now) (state S.Store tx.new.conn.now)
-        (λ _. ⊥) }
-    ensures cause { HasCleanDisk (state S.Store tx.new.conn.now)
-        → ReportsCause (state S.Store tx.old.conn.now) (state S.Store tx.new.conn.now) result }
+    ensures no_trace { LeavesNoTraceWithCause S.Store tx.old.conn tx.new.conn result }
 {
     run_each::<Putting, T, S>(tx, rows)
 }

@@ -1,9 +1,6 @@
 //! Rebuilds a database with tables of any schema version, in one transaction.
-ghost use Rattle.std.specs.Prelude.{◌≡◌, ⊤, false, IfErr, OnErr, OnOk};
-ghost use Rattle.sqlite.specs.Held.{state};
-ghost use Rattle.sqlite.specs.State.{HasCleanDisk, Survives};
-ghost use Rattle.sql_base.specs.Causes.{HadCause};
-ghost use Rattle.sql_base.specs.Ends.{Ends, IsKept, IsLeft};
+ghost use Rattle.std.specs.Prelude.{◌≡◌, ⊤, false};
+ghost use Rattle.sql_base.specs.Unchanged.{TransactsWithCause};
 ghost use Rattle.remaking.specs.Remakes.{Remakes};
 
 use crate::anew::make_anew;
@@ -46,15 +43,7 @@ pub fn remake<S: Alter>(
     tables: &Tables,
 ) -> Result<(), Error>
     requires idle { conn.old.in_transaction ≡ false }
-    ensures ok { HasCleanDisk (state S.Store conn.new) → OnOk result
-        (Ends (Remakes version tables.now) (state S.Store conn.old) (state S.Store conn.new)) }
-    ensures err { HasCleanDisk (state S.Store conn.new)
-        → OnErr result (IsKept (state S.Store conn.old) (state S.Store conn.new)) }
-    ensures idle { conn.new.in_transaction ≡ false }
-    ensures crash { Survives (state S.Store conn.old) (state S.Store conn.new)
-        (IsLeft (Remakes version tables.now) (state S.Store conn.old)) }
-    ensures cause { HasCleanDisk (state S.Store conn.new) → IfErr result
-        (HadCause S.Store (state S.Store conn.old) (state S.Store conn.new)) }
+    ensures { TransactsWithCause S.Store (Remakes version tables.now) conn.old conn.new result }
 {
     transact(conn, &Remaking { version, tables })
 }

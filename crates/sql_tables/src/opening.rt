@@ -1,10 +1,10 @@
 //! Creates the tables in an empty database.
-ghost use Rattle.std.specs.Prelude.{◌≡◌, ◌↔◌, ⊤, false, IfErr, IsTrue, OnErr, OnOk};
+ghost use Rattle.std.specs.Prelude.{◌≡◌, ◌↔◌, ⊤, false, IfErr, IsTrue, OnOk};
 ghost use Rattle.sqlite.specs.Held.{state};
-ghost use Rattle.sqlite.specs.State.{HasCleanDisk, Survives, is_disk_error};
+ghost use Rattle.sqlite.specs.State.{HasCleanDisk, is_disk_error};
 ghost use Rattle.sqlite.specs.Steps.{over_memory};
-ghost use Rattle.sql_base.specs.Causes.{HadCause, ReportsCause};
-ghost use Rattle.sql_base.specs.Ends.{Ends, IsKept, IsLeft, Wrote};
+ghost use Rattle.sql_base.specs.Ends.{Wrote};
+ghost use Rattle.sql_base.specs.Unchanged.{LeavesNoTraceWithCause, TransactsWithCause};
 ghost use Rattle.sql_tables.specs.Opening.{AddsVersion, Makes, MakesAll, MakesVersion};
 ghost use Rattle.sql_tables.specs.Tables.{our_schema};
 
@@ -31,14 +31,10 @@ impl<'a> Runs<&'a str> for Making {
 
 // Creates the tables and indexes of `version`.
 fn make_version<S: Alter>(tx: &mut Transaction<'_, S>, version: Version) -> Result<(), Error>
-    ensures same_reference { tx.new.conn.ghost_name ≡ tx.old.conn.ghost_name }
     ensures made { HasCleanDisk (state S.Store tx.new.conn.now)
         → Wrote (MakesVersion version) (state S.Store tx.old.conn.now)
         (state S.Store tx.new.conn.now) result }
-    ensures survives { Survives (state S.Store tx.old.conn.now) (state S.Store tx.new.conn.now)
-        (λ _. ⊥) }
-    ensures cause { HasCleanDisk (state S.Store tx.new.conn.now)
-        → ReportsCause (state S.Store tx.old.conn.now) (state S.Store tx.new.conn.now) result }
+    ensures no_trace { LeavesNoTraceWithCause S.Store tx.old.conn tx.new.conn result }
 {
     let (first, rest) = texts_of(version);
     run_both::<Making, &str, S>(tx, first, rest)
@@ -46,14 +42,10 @@ fn make_version<S: Alter>(tx: &mut Transaction<'_, S>, version: Version) -> Resu
 
 // Inserts the row of `version`, in an open transaction.
 fn add_version<S: Alter>(tx: &mut Transaction<'_, S>) -> Result<usize, Error>
-    ensures same_reference { tx.new.conn.ghost_name ≡ tx.old.conn.ghost_name }
     ensures made { HasCleanDisk (state S.Store tx.new.conn.now)
         → Wrote AddsVersion (state S.Store tx.old.conn.now)
         (state S.Store tx.new.conn.now) result }
-    ensures survives { Survives (state S.Store tx.old.conn.now) (state S.Store tx.new.conn.now)
-        (λ _. ⊥) }
-    ensures cause { HasCleanDisk (state S.Store tx.new.conn.now)
-        → ReportsCause (state S.Store tx.old.conn.now) (state S.Store tx.new.conn.now) result }
+    ensures no_trace { LeavesNoTraceWithCause S.Store tx.old.conn tx.new.conn result }
 {
     tx.execute("INSERT INTO version (id, number) VALUES (1, 3)", &[])
 }
@@ -61,14 +53,10 @@ fn add_version<S: Alter>(tx: &mut Transaction<'_, S>) -> Result<usize, Error>
 /// Creates the tables and indexes of the current schema and inserts the row of `version`, in the
 /// open transaction `tx`. A crash leaves no trace of them.
 pub fn make_all<S: Alter>(tx: &mut Transaction<'_, S>) -> Result<(), Error>
-    ensures same_reference { tx.new.conn.ghost_name ≡ tx.old.conn.ghost_name }
     ensures made { HasCleanDisk (state S.Store tx.new.conn.now)
         → Wrote MakesAll (state S.Store tx.old.conn.now)
         (state S.Store tx.new.conn.now) result }
-    ensures survives { Survives (state S.Store tx.old.conn.now) (state S.Store tx.new.conn.now)
-        (λ _. ⊥) }
-    ensures cause { HasCleanDisk (state S.Store tx.new.conn.now)
-        → ReportsCause (state S.Store tx.old.conn.now) (state S.Store tx.new.conn.now) result }
+    ensures no_trace { LeavesNoTraceWithCause S.Store tx.old.conn tx.new.conn result }
 {
     make_version(tx, Version::Three)?;
     add_version(tx)?;
@@ -92,15 +80,7 @@ impl UnitOfWork for All {
 /// transaction. After a crash the database is as it could be before the call, or has all of them.
 pub fn make_tables<S: Alter>(conn: &mut Connection<S>) -> Result<(), Error>
     requires { conn.old.in_transaction ≡ false }
-    ensures ok { HasCleanDisk (state S.Store conn.new) → OnOk result
-        (Ends MakesAll (state S.Store conn.old) (state S.Store conn.new)) }
-    ensures err { HasCleanDisk (state S.Store conn.new) → OnErr result
-        (IsKept (state S.Store conn.old) (state S.Store conn.new)) }
-    ensures idle { conn.new.in_transaction ≡ false }
-    ensures crash { Survives (state S.Store conn.old) (state S.Store conn.new)
-        (IsLeft MakesAll (state S.Store conn.old)) }
-    ensures cause { HasCleanDisk (state S.Store conn.new) → IfErr result
-        (HadCause S.Store (state S.Store conn.old) (state S.Store conn.new)) }
+    ensures { TransactsWithCause S.Store MakesAll conn.old conn.new result }
 {
     transact(conn, &All)
 }

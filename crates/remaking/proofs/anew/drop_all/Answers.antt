@@ -12,5 +12,9 @@ returns-clause-made g c clean =
     let b = state g.S.Store c.run_both.new.tx.conn.now in
     all_wrote (λ text. text.now) DropsTable (DropsAll v) _ _ a b c.run_both.result c.drops_of.ensures (some_dropped v) (all_dropped v a.now b.now) (c.run_both.ensures.made clean)
 
-pub returns-clause-cause : goal.returns-clause-cause
-returns-clause-cause g c clean = c.run_both.ensures.cause tt clean
+pub returns-clause-no_trace : goal.returns-clause-no_trace
+returns-clause-no_trace g c = record {
+  same_reference = c.run_both.ensures.same_reference;
+  survives = c.run_both.ensures.survives;
+  cause = c.run_both.ensures.cause tt;
+}

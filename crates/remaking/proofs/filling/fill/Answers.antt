@@ -1,7 +1,7 @@
 use Rattle.std.proofs.Common.{ap, subst, arith}
 use Rattle.sqlite.specs.Held.{state}
 use Rattle.sqlite.specs.State.{HasCleanDisk}
-use Rattle.sql_base.proofs.Causing.{passed_on, reports_since}
+use Rattle.sql_base.proofs.Lasting.{trace_past, trace_then}
 use Rattle.sql_rows.specs.Image.{Moves}
 use Rattle.sql_rows.specs.Many.{WroteMany}
 use Rattle.table_rows.specs.Tables.{Tables}
@@ -16,7 +16,7 @@ returns-clause-wrote g c clean =
     let s0 = state g.S.Store c.args.tx.now.conn.now in
     let s1 = state g.S.Store c.fill_bare.new.tx.conn.now in
     let s2 = state g.S.Store c.set_bytes.new.tx.conn.now in
-    let clean1 : HasCleanDisk s1 = omega (arith, c.set_bytes.ensures.survives.clean) in
+    let clean1 : HasCleanDisk s1 = omega (arith, c.set_bytes.ensures.no_trace.survives.clean) in
     let read = ap (λ (t : Tables). t.batches) c.tables.view_is in
     let given = subst (λ bs. WroteMany (Moves (with_each with_bytes bs)) s1 s2 c.set_bytes.result) read (rw (c.as_slice.ensures.value) at (c.set_bytes.ensures.wrote clean)) in
     many_then (with_all (without_bytes rows)) (with_each with_bytes rows.batches) (with_all rows) s0 s1 s2
@@ -28,13 +28,9 @@ returns-clause-alone g c clean =
     let s2 = state g.S.Store c.set_bytes.new.tx.conn.now in
     made_alone c.args.tables.now s0 s2 c.set_bytes.result (returns-clause-wrote g c clean)
 
-pub returns-clause-cause : goal.returns-clause-cause
-returns-clause-cause g c clean =
-    let s0 = state g.S.Store c.args.tx.now.conn.now in
-    let s1 = state g.S.Store c.fill_bare.new.tx.conn.now in
-    let s2 = state g.S.Store c.set_bytes.new.tx.conn.now in
-    reports_since s0 s1 s2 c.set_bytes.result c.fill_bare.ensures.survives.counts (c.set_bytes.ensures.cause clean)
+pub returns-clause-no_trace : goal.returns-clause-no_trace
+returns-clause-no_trace g c = trace_then c.fill_bare.ensures.no_trace c.set_bytes.ensures.no_trace
 
-pub returns-in_err-fill_bare-clause-cause : goal.returns-in_err-fill_bare-clause-cause
-returns-in_err-fill_bare-clause-cause g c clean =
-    passed_on (state g.S.Store c.args.tx.now.conn.now) (state g.S.Store c.fill_bare.new.tx.conn.now) c.in_err-fill_bare.field-0.0 c.from_residual.result c.from_residual.ensures.1 (c.in_err-fill_bare.ensures.cause clean)
+pub returns-in_err-fill_bare-clause-no_trace : goal.returns-in_err-fill_bare-clause-no_trace
+returns-in_err-fill_bare-clause-no_trace g c =
+    trace_past c.fill_bare.ensures.no_trace c.from_residual.result c.in_err-fill_bare.field-0.0 c.from_residual.ensures.1 c.in_err-fill_bare.ensures.no_trace.cause

@@ -1,10 +1,10 @@
 use Rattle.std.proofs.Common.{ap, arith}
 use Rattle.sqlite.specs.Held.{state}
 use Rattle.sqlite.specs.State.{HasCleanDisk}
-use Rattle.sql_base.proofs.Causing.{passed_on, passed_since, reports_since}
+use Rattle.sql_base.proofs.Lasting.{trace_past, trace_then}
 use Rattle.table_rows.specs.Tables.{Tables}
 use Rattle.remaking.specs.Rows.{with_all, without_bytes}
-use Rattle.remaking.proofs.Several.{all_each, all_same, many_on, same_made, unharmed}
+use Rattle.remaking.proofs.Several.{all_each, all_same, many_on, same_made}
 use Rattle.remaking.proofs.filling.fill_bare.Goals as goal
 
 pub returns-clause-wrote : goal.returns-clause-wrote
@@ -22,16 +22,16 @@ returns-clause-wrote g c clean =
     let s9 = state g.S.Store c.put_all-9.new.tx.conn.now in
     let s10 = state g.S.Store c.put_all-10.new.tx.conn.now in
     let s11 = state g.S.Store c.put_all-11.new.tx.conn.now in
-    let clean10 : HasCleanDisk s10 = omega (arith, c.put_all-11.ensures.survives.clean) in
-    let clean9 : HasCleanDisk s9 = omega (arith, c.put_all-10.ensures.survives.clean) in
-    let clean8 : HasCleanDisk s8 = omega (arith, c.put_all-9.ensures.survives.clean) in
-    let clean7 : HasCleanDisk s7 = omega (arith, c.put_all-8.ensures.survives.clean) in
-    let clean6 : HasCleanDisk s6 = omega (arith, c.put_all-7.ensures.survives.clean) in
-    let clean5 : HasCleanDisk s5 = omega (arith, c.put_all-6.ensures.survives.clean) in
-    let clean4 : HasCleanDisk s4 = omega (arith, c.put_all-5.ensures.survives.clean) in
-    let clean3 : HasCleanDisk s3 = omega (arith, c.put_all-4.ensures.survives.clean) in
-    let clean2 : HasCleanDisk s2 = omega (arith, c.put_all-3.ensures.survives.clean) in
-    let clean1 : HasCleanDisk s1 = omega (arith, c.put_all-2.ensures.survives.clean) in
+    let clean10 : HasCleanDisk s10 = omega (arith, c.put_all-11.ensures.no_trace.survives.clean) in
+    let clean9 : HasCleanDisk s9 = omega (arith, c.put_all-10.ensures.no_trace.survives.clean) in
+    let clean8 : HasCleanDisk s8 = omega (arith, c.put_all-9.ensures.no_trace.survives.clean) in
+    let clean7 : HasCleanDisk s7 = omega (arith, c.put_all-8.ensures.no_trace.survives.clean) in
+    let clean6 : HasCleanDisk s6 = omega (arith, c.put_all-7.ensures.no_trace.survives.clean) in
+    let clean5 : HasCleanDisk s5 = omega (arith, c.put_all-6.ensures.no_trace.survives.clean) in
+    let clean4 : HasCleanDisk s4 = omega (arith, c.put_all-5.ensures.no_trace.survives.clean) in
+    let clean3 : HasCleanDisk s3 = omega (arith, c.put_all-4.ensures.no_trace.survives.clean) in
+    let clean2 : HasCleanDisk s2 = omega (arith, c.put_all-3.ensures.no_trace.survives.clean) in
+    let clean1 : HasCleanDisk s1 = omega (arith, c.put_all-2.ensures.no_trace.survives.clean) in
     let wrote1 = rw (c.as_slice.ensures.value, ap (λ (t : Tables). t.products) c.tables.view_is) at (c.in_ok-put_all.ensures.wrote clean1) in
     let wrote2 = rw (c.as_slice-2.ensures.value, ap (λ (t : Tables). t.lots) c.tables.view_is) at (c.in_ok-put_all-2.ensures.wrote clean2) in
     let wrote3 = rw (c.as_slice-3.ensures.value, ap (λ (t : Tables). t.batches) c.tables.view_is) at (c.in_ok-put_all-3.ensures.wrote clean3) in
@@ -55,91 +55,100 @@ returns-clause-wrote g c clean =
     let by11 = many_on _ _ s0 s10 s11 _ c.put_all-11.result by10 wrote11 in
     same_made (with_all (without_bytes rows)) (all_each rows) (all_same rows) s0 s11 c.put_all-11.result by11
 
-pub returns-clause-survives : goal.returns-clause-survives
-returns-clause-survives g c =
-    let by3 = unharmed (unharmed c.put_all.ensures.survives c.put_all-2.ensures.survives) c.put_all-3.ensures.survives in
-    let by5 = unharmed (unharmed by3 c.put_all-4.ensures.survives) c.put_all-5.ensures.survives in
-    let by7 = unharmed (unharmed by5 c.put_all-6.ensures.survives) c.put_all-7.ensures.survives in
-    let by9 = unharmed (unharmed by7 c.put_all-8.ensures.survives) c.put_all-9.ensures.survives in
-    unharmed (unharmed by9 c.put_all-10.ensures.survives) c.put_all-11.ensures.survives
+pub returns-in_err-put_all-clause-no_trace : goal.returns-in_err-put_all-clause-no_trace
+returns-in_err-put_all-clause-no_trace g c =
+    trace_past c.put_all.ensures.no_trace c.from_residual.result c.in_err-put_all.field-0.0 c.from_residual.ensures.1 c.in_err-put_all.ensures.no_trace.cause
 
-pub returns-in_err-put_all-10-clause-survives : goal.returns-in_err-put_all-10-clause-survives
-returns-in_err-put_all-10-clause-survives g c =
-    let by3 = unharmed (unharmed c.put_all.ensures.survives c.put_all-2.ensures.survives) c.put_all-3.ensures.survives in
-    let by5 = unharmed (unharmed by3 c.put_all-4.ensures.survives) c.put_all-5.ensures.survives in
-    let by7 = unharmed (unharmed by5 c.put_all-6.ensures.survives) c.put_all-7.ensures.survives in
-    let by9 = unharmed (unharmed by7 c.put_all-8.ensures.survives) c.put_all-9.ensures.survives in
-    unharmed by9 c.put_all-10.ensures.survives
-
-pub returns-clause-cause : goal.returns-clause-cause
-returns-clause-cause g c clean =
-    let by3 = unharmed (unharmed c.put_all.ensures.survives c.put_all-2.ensures.survives) c.put_all-3.ensures.survives in
-    let by5 = unharmed (unharmed by3 c.put_all-4.ensures.survives) c.put_all-5.ensures.survives in
-    let by7 = unharmed (unharmed by5 c.put_all-6.ensures.survives) c.put_all-7.ensures.survives in
-    let by9 = unharmed (unharmed by7 c.put_all-8.ensures.survives) c.put_all-9.ensures.survives in
-    reports_since (state g.S.Store c.args.tx.now.conn.now) (state g.S.Store c.put_all-10.new.tx.conn.now) (state g.S.Store c.put_all-11.new.tx.conn.now) c.put_all-11.result (unharmed by9 c.put_all-10.ensures.survives).counts (c.put_all-11.ensures.cause clean)
-
-pub returns-in_err-put_all-10-clause-cause : goal.returns-in_err-put_all-10-clause-cause
-returns-in_err-put_all-10-clause-cause g c clean =
-    let by3 = unharmed (unharmed c.put_all.ensures.survives c.put_all-2.ensures.survives) c.put_all-3.ensures.survives in
-    let by5 = unharmed (unharmed by3 c.put_all-4.ensures.survives) c.put_all-5.ensures.survives in
-    let by7 = unharmed (unharmed by5 c.put_all-6.ensures.survives) c.put_all-7.ensures.survives in
-    let by9 = unharmed (unharmed by7 c.put_all-8.ensures.survives) c.put_all-9.ensures.survives in
-    let r = c.from_residual-in_err-put_all-10 in
-    passed_since (state g.S.Store c.args.tx.now.conn.now) (state g.S.Store c.put_all-9.new.tx.conn.now) (state g.S.Store c.put_all-10.new.tx.conn.now) r.result by9.counts c.in_err-put_all-10.field-0.0 r.ensures.1 (c.in_err-put_all-10.ensures.cause clean)
-
-pub returns-in_err-put_all-9-clause-cause : goal.returns-in_err-put_all-9-clause-cause
-returns-in_err-put_all-9-clause-cause g c clean =
-    let by3 = unharmed (unharmed c.put_all.ensures.survives c.put_all-2.ensures.survives) c.put_all-3.ensures.survives in
-    let by5 = unharmed (unharmed by3 c.put_all-4.ensures.survives) c.put_all-5.ensures.survives in
-    let by7 = unharmed (unharmed by5 c.put_all-6.ensures.survives) c.put_all-7.ensures.survives in
-    let r = c.from_residual-in_err-put_all-9 in
-    passed_since (state g.S.Store c.args.tx.now.conn.now) (state g.S.Store c.put_all-8.new.tx.conn.now) (state g.S.Store c.put_all-9.new.tx.conn.now) r.result (unharmed by7 c.put_all-8.ensures.survives).counts c.in_err-put_all-9.field-0.0 r.ensures.1 (c.in_err-put_all-9.ensures.cause clean)
-
-pub returns-in_err-put_all-8-clause-cause : goal.returns-in_err-put_all-8-clause-cause
-returns-in_err-put_all-8-clause-cause g c clean =
-    let by3 = unharmed (unharmed c.put_all.ensures.survives c.put_all-2.ensures.survives) c.put_all-3.ensures.survives in
-    let by5 = unharmed (unharmed by3 c.put_all-4.ensures.survives) c.put_all-5.ensures.survives in
-    let by7 = unharmed (unharmed by5 c.put_all-6.ensures.survives) c.put_all-7.ensures.survives in
-    let r = c.from_residual-in_err-put_all-8 in
-    passed_since (state g.S.Store c.args.tx.now.conn.now) (state g.S.Store c.put_all-7.new.tx.conn.now) (state g.S.Store c.put_all-8.new.tx.conn.now) r.result by7.counts c.in_err-put_all-8.field-0.0 r.ensures.1 (c.in_err-put_all-8.ensures.cause clean)
-
-pub returns-in_err-put_all-7-clause-cause : goal.returns-in_err-put_all-7-clause-cause
-returns-in_err-put_all-7-clause-cause g c clean =
-    let by3 = unharmed (unharmed c.put_all.ensures.survives c.put_all-2.ensures.survives) c.put_all-3.ensures.survives in
-    let by5 = unharmed (unharmed by3 c.put_all-4.ensures.survives) c.put_all-5.ensures.survives in
-    let r = c.from_residual-in_err-put_all-7 in
-    passed_since (state g.S.Store c.args.tx.now.conn.now) (state g.S.Store c.put_all-6.new.tx.conn.now) (state g.S.Store c.put_all-7.new.tx.conn.now) r.result (unharmed by5 c.put_all-6.ensures.survives).counts c.in_err-put_all-7.field-0.0 r.ensures.1 (c.in_err-put_all-7.ensures.cause clean)
-
-pub returns-in_err-put_all-6-clause-cause : goal.returns-in_err-put_all-6-clause-cause
-returns-in_err-put_all-6-clause-cause g c clean =
-    let by3 = unharmed (unharmed c.put_all.ensures.survives c.put_all-2.ensures.survives) c.put_all-3.ensures.survives in
-    let by5 = unharmed (unharmed by3 c.put_all-4.ensures.survives) c.put_all-5.ensures.survives in
-    let r = c.from_residual-in_err-put_all-6 in
-    passed_since (state g.S.Store c.args.tx.now.conn.now) (state g.S.Store c.put_all-5.new.tx.conn.now) (state g.S.Store c.put_all-6.new.tx.conn.now) r.result by5.counts c.in_err-put_all-6.field-0.0 r.ensures.1 (c.in_err-put_all-6.ensures.cause clean)
-
-pub returns-in_err-put_all-5-clause-cause : goal.returns-in_err-put_all-5-clause-cause
-returns-in_err-put_all-5-clause-cause g c clean =
-    let by3 = unharmed (unharmed c.put_all.ensures.survives c.put_all-2.ensures.survives) c.put_all-3.ensures.survives in
-    let r = c.from_residual-in_err-put_all-5 in
-    passed_since (state g.S.Store c.args.tx.now.conn.now) (state g.S.Store c.put_all-4.new.tx.conn.now) (state g.S.Store c.put_all-5.new.tx.conn.now) r.result (unharmed by3 c.put_all-4.ensures.survives).counts c.in_err-put_all-5.field-0.0 r.ensures.1 (c.in_err-put_all-5.ensures.cause clean)
-
-pub returns-in_err-put_all-4-clause-cause : goal.returns-in_err-put_all-4-clause-cause
-returns-in_err-put_all-4-clause-cause g c clean =
-    let by3 = unharmed (unharmed c.put_all.ensures.survives c.put_all-2.ensures.survives) c.put_all-3.ensures.survives in
-    let r = c.from_residual-in_err-put_all-4 in
-    passed_since (state g.S.Store c.args.tx.now.conn.now) (state g.S.Store c.put_all-3.new.tx.conn.now) (state g.S.Store c.put_all-4.new.tx.conn.now) r.result by3.counts c.in_err-put_all-4.field-0.0 r.ensures.1 (c.in_err-put_all-4.ensures.cause clean)
-
-pub returns-in_err-put_all-3-clause-cause : goal.returns-in_err-put_all-3-clause-cause
-returns-in_err-put_all-3-clause-cause g c clean =
-    let r = c.from_residual-in_err-put_all-3 in
-    passed_since (state g.S.Store c.args.tx.now.conn.now) (state g.S.Store c.put_all-2.new.tx.conn.now) (state g.S.Store c.put_all-3.new.tx.conn.now) r.result (unharmed c.put_all.ensures.survives c.put_all-2.ensures.survives).counts c.in_err-put_all-3.field-0.0 r.ensures.1 (c.in_err-put_all-3.ensures.cause clean)
-
-pub returns-in_err-put_all-2-clause-cause : goal.returns-in_err-put_all-2-clause-cause
-returns-in_err-put_all-2-clause-cause g c clean =
+pub returns-in_err-put_all-2-clause-no_trace : goal.returns-in_err-put_all-2-clause-no_trace
+returns-in_err-put_all-2-clause-no_trace g c =
     let r = c.from_residual-in_err-put_all-2 in
-    passed_since (state g.S.Store c.args.tx.now.conn.now) (state g.S.Store c.put_all.new.tx.conn.now) (state g.S.Store c.put_all-2.new.tx.conn.now) r.result c.put_all.ensures.survives.counts c.in_err-put_all-2.field-0.0 r.ensures.1 (c.in_err-put_all-2.ensures.cause clean)
+    trace_then c.put_all.ensures.no_trace (trace_past c.put_all-2.ensures.no_trace r.result c.in_err-put_all-2.field-0.0 r.ensures.1 c.in_err-put_all-2.ensures.no_trace.cause)
 
-pub returns-in_err-put_all-clause-cause : goal.returns-in_err-put_all-clause-cause
-returns-in_err-put_all-clause-cause g c clean =
-    passed_on (state g.S.Store c.args.tx.now.conn.now) (state g.S.Store c.put_all.new.tx.conn.now) c.in_err-put_all.field-0.0 c.from_residual.result c.from_residual.ensures.1 (c.in_err-put_all.ensures.cause clean)
+pub returns-in_err-put_all-3-clause-no_trace : goal.returns-in_err-put_all-3-clause-no_trace
+returns-in_err-put_all-3-clause-no_trace g c =
+    let by2 = trace_then c.put_all.ensures.no_trace c.put_all-2.ensures.no_trace in
+    let r = c.from_residual-in_err-put_all-3 in
+    trace_then by2 (trace_past c.put_all-3.ensures.no_trace r.result c.in_err-put_all-3.field-0.0 r.ensures.1 c.in_err-put_all-3.ensures.no_trace.cause)
+
+pub returns-in_err-put_all-4-clause-no_trace : goal.returns-in_err-put_all-4-clause-no_trace
+returns-in_err-put_all-4-clause-no_trace g c =
+    let by2 = trace_then c.put_all.ensures.no_trace c.put_all-2.ensures.no_trace in
+    let by3 = trace_then by2 c.put_all-3.ensures.no_trace in
+    let r = c.from_residual-in_err-put_all-4 in
+    trace_then by3 (trace_past c.put_all-4.ensures.no_trace r.result c.in_err-put_all-4.field-0.0 r.ensures.1 c.in_err-put_all-4.ensures.no_trace.cause)
+
+pub returns-in_err-put_all-5-clause-no_trace : goal.returns-in_err-put_all-5-clause-no_trace
+returns-in_err-put_all-5-clause-no_trace g c =
+    let by2 = trace_then c.put_all.ensures.no_trace c.put_all-2.ensures.no_trace in
+    let by3 = trace_then by2 c.put_all-3.ensures.no_trace in
+    let by4 = trace_then by3 c.put_all-4.ensures.no_trace in
+    let r = c.from_residual-in_err-put_all-5 in
+    trace_then by4 (trace_past c.put_all-5.ensures.no_trace r.result c.in_err-put_all-5.field-0.0 r.ensures.1 c.in_err-put_all-5.ensures.no_trace.cause)
+
+pub returns-in_err-put_all-6-clause-no_trace : goal.returns-in_err-put_all-6-clause-no_trace
+returns-in_err-put_all-6-clause-no_trace g c =
+    let by2 = trace_then c.put_all.ensures.no_trace c.put_all-2.ensures.no_trace in
+    let by3 = trace_then by2 c.put_all-3.ensures.no_trace in
+    let by4 = trace_then by3 c.put_all-4.ensures.no_trace in
+    let by5 = trace_then by4 c.put_all-5.ensures.no_trace in
+    let r = c.from_residual-in_err-put_all-6 in
+    trace_then by5 (trace_past c.put_all-6.ensures.no_trace r.result c.in_err-put_all-6.field-0.0 r.ensures.1 c.in_err-put_all-6.ensures.no_trace.cause)
+
+pub returns-in_err-put_all-7-clause-no_trace : goal.returns-in_err-put_all-7-clause-no_trace
+returns-in_err-put_all-7-clause-no_trace g c =
+    let by2 = trace_then c.put_all.ensures.no_trace c.put_all-2.ensures.no_trace in
+    let by3 = trace_then by2 c.put_all-3.ensures.no_trace in
+    let by4 = trace_then by3 c.put_all-4.ensures.no_trace in
+    let by5 = trace_then by4 c.put_all-5.ensures.no_trace in
+    let by6 = trace_then by5 c.put_all-6.ensures.no_trace in
+    let r = c.from_residual-in_err-put_all-7 in
+    trace_then by6 (trace_past c.put_all-7.ensures.no_trace r.result c.in_err-put_all-7.field-0.0 r.ensures.1 c.in_err-put_all-7.ensures.no_trace.cause)
+
+pub returns-in_err-put_all-8-clause-no_trace : goal.returns-in_err-put_all-8-clause-no_trace
+returns-in_err-put_all-8-clause-no_trace g c =
+    let by2 = trace_then c.put_all.ensures.no_trace c.put_all-2.ensures.no_trace in
+    let by3 = trace_then by2 c.put_all-3.ensures.no_trace in
+    let by4 = trace_then by3 c.put_all-4.ensures.no_trace in
+    let by5 = trace_then by4 c.put_all-5.ensures.no_trace in
+    let by6 = trace_then by5 c.put_all-6.ensures.no_trace in
+    let by7 = trace_then by6 c.put_all-7.ensures.no_trace in
+    let r = c.from_residual-in_err-put_all-8 in
+    trace_then by7 (trace_past c.put_all-8.ensures.no_trace r.result c.in_err-put_all-8.field-0.0 r.ensures.1 c.in_err-put_all-8.ensures.no_trace.cause)
+
+pub returns-in_err-put_all-9-clause-no_trace : goal.returns-in_err-put_all-9-clause-no_trace
+returns-in_err-put_all-9-clause-no_trace g c =
+    let by2 = trace_then c.put_all.ensures.no_trace c.put_all-2.ensures.no_trace in
+    let by3 = trace_then by2 c.put_all-3.ensures.no_trace in
+    let by4 = trace_then by3 c.put_all-4.ensures.no_trace in
+    let by5 = trace_then by4 c.put_all-5.ensures.no_trace in
+    let by6 = trace_then by5 c.put_all-6.ensures.no_trace in
+    let by7 = trace_then by6 c.put_all-7.ensures.no_trace in
+    let by8 = trace_then by7 c.put_all-8.ensures.no_trace in
+    let r = c.from_residual-in_err-put_all-9 in
+    trace_then by8 (trace_past c.put_all-9.ensures.no_trace r.result c.in_err-put_all-9.field-0.0 r.ensures.1 c.in_err-put_all-9.ensures.no_trace.cause)
+
+pub returns-in_err-put_all-10-clause-no_trace : goal.returns-in_err-put_all-10-clause-no_trace
+returns-in_err-put_all-10-clause-no_trace g c =
+    let by2 = trace_then c.put_all.ensures.no_trace c.put_all-2.ensures.no_trace in
+    let by3 = trace_then by2 c.put_all-3.ensures.no_trace in
+    let by4 = trace_then by3 c.put_all-4.ensures.no_trace in
+    let by5 = trace_then by4 c.put_all-5.ensures.no_trace in
+    let by6 = trace_then by5 c.put_all-6.ensures.no_trace in
+    let by7 = trace_then by6 c.put_all-7.ensures.no_trace in
+    let by8 = trace_then by7 c.put_all-8.ensures.no_trace in
+    let by9 = trace_then by8 c.put_all-9.ensures.no_trace in
+    let r = c.from_residual-in_err-put_all-10 in
+    trace_then by9 (trace_past c.put_all-10.ensures.no_trace r.result c.in_err-put_all-10.field-0.0 r.ensures.1 c.in_err-put_all-10.ensures.no_trace.cause)
+
+pub returns-clause-no_trace : goal.returns-clause-no_trace
+returns-clause-no_trace g c =
+    let by2 = trace_then c.put_all.ensures.no_trace c.put_all-2.ensures.no_trace in
+    let by3 = trace_then by2 c.put_all-3.ensures.no_trace in
+    let by4 = trace_then by3 c.put_all-4.ensures.no_trace in
+    let by5 = trace_then by4 c.put_all-5.ensures.no_trace in
+    let by6 = trace_then by5 c.put_all-6.ensures.no_trace in
+    let by7 = trace_then by6 c.put_all-7.ensures.no_trace in
+    let by8 = trace_then by7 c.put_all-8.ensures.no_trace in
+    let by9 = trace_then by8 c.put_all-9.ensures.no_trace in
+    let by10 = trace_then by9 c.put_all-10.ensures.no_trace in
+    trace_then by10 c.put_all-11.ensures.no_trace

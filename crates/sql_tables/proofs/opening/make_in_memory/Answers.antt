@@ -36,4 +36,4 @@ pub returns-in_err-make_version-clause-cause : goal.returns-in_err-make_version-
 returns-in_err-make_version-clause-cause c =
     let mid = c.make_version.new.tx.conn.now in
     let e = c.in_err-make_version.field-0.0 in
-    unblamed e c.from_residual.result c.from_residual.ensures.1 (no_disk c.transaction-tx.result.conn.now mid e (c.in_err-make_version.ensures.cause (memory_is_clean mid)))
+    unblamed e c.from_residual.result c.from_residual.ensures.1 (no_disk c.transaction-tx.result.conn.now mid e (c.in_err-make_version.ensures.no_trace.cause (memory_is_clean mid)))

@@ -11,5 +11,9 @@ returns-clause-wrote g c clean =
     row_put_in g.S.Store with_grouping c.args.tx.now.conn.now c.execute.new.self.conn.now _ _ c.self.view_is _ _ _ (grouping_added _ _ _) c.execute.result c.execute.ensures.ended
     (rw (c.enc_code.ensures, c.from.ensures, c.from-2.ensures, c.as_slice.ensures.value, c.as_slice-2.ensures.value) at numbers)
 
-pub returns-clause-cause : goal.returns-clause-cause
-returns-clause-cause g c clean = reports g.S.Store c.args.tx.now.conn.now c.execute.new.self.conn.now add_grouping_text _ c.execute.result c.execute.ensures.ended (c.execute.ensures.runs clean)
+pub returns-clause-no_trace : goal.returns-clause-no_trace
+returns-clause-no_trace g c = record {
+  same_reference = c.execute.ensures.same_reference;
+  survives = c.execute.ensures.survives;
+  cause = λ clean. reports g.S.Store c.args.tx.now.conn.now c.execute.new.self.conn.now add_grouping_text _ c.execute.result c.execute.ensures.ended (c.execute.ensures.runs clean);
+}

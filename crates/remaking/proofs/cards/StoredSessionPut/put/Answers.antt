@@ -10,5 +10,9 @@ returns-clause-wrote g c clean =
     row_put_in g.S.Store with_session c.args.tx.now.conn.now c.execute.new.self.conn.now _ _ c.self.view_is _ _ _ (session_put _ _ _) c.execute.result c.execute.ensures.ended
     (rw (c.session_code.ensures, c.from.ensures, c.as_slice.ensures.value) at numbers)
 
-pub returns-clause-cause : goal.returns-clause-cause
-returns-clause-cause g c clean = reports g.S.Store c.args.tx.now.conn.now c.execute.new.self.conn.now put_session_text _ c.execute.result c.execute.ensures.ended (c.execute.ensures.runs clean)
+pub returns-clause-no_trace : goal.returns-clause-no_trace
+returns-clause-no_trace g c = record {
+  same_reference = c.execute.ensures.same_reference;
+  survives = c.execute.ensures.survives;
+  cause = λ clean. reports g.S.Store c.args.tx.now.conn.now c.execute.new.self.conn.now put_session_text _ c.execute.result c.execute.ensures.ended (c.execute.ensures.runs clean);
+}

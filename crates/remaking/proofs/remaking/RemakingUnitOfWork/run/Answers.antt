@@ -12,7 +12,7 @@ returns-clause-made g c clean =
     let a = state g.S.Store c.args.tx.now.conn.now in
     let b = state g.S.Store c.make_anew.new.tx.conn.now in
     let d = state g.S.Store c.fill.new.tx.conn.now in
-    let early : HasCleanDisk b = omega (arith, c.fill.ensures.survives.clean) in
+    let early : HasCleanDisk b = omega (arith, c.fill.ensures.no_trace.survives.clean) in
     filled_anew c.args.self.now.version c.args.self.now.tables.now a b d _ c.fill.result (c.in_ok-make_anew.ensures.made early) (c.fill.ensures.wrote clean) (c.fill.ensures.alone clean)
 
 pub returns-in_err-make_anew-clause-made : goal.returns-in_err-make_anew-clause-made
@@ -23,8 +23,8 @@ returns-clause-cause g c explains clean =
     let a = state g.S.Store c.args.tx.now.conn.now in
     let b = state g.S.Store c.make_anew.new.tx.conn.now in
     let d = state g.S.Store c.fill.new.tx.conn.now in
-    reports_since a b d c.fill.result c.make_anew.ensures.survives.counts (c.fill.ensures.cause clean)
+    reports_since a b d c.fill.result c.make_anew.ensures.no_trace.survives.counts (c.fill.ensures.no_trace.cause clean)
 
 pub returns-in_err-make_anew-clause-cause : goal.returns-in_err-make_anew-clause-cause
 returns-in_err-make_anew-clause-cause g c explains clean =
-    passed_on (state g.S.Store c.args.tx.now.conn.now) (state g.S.Store c.make_anew.new.tx.conn.now) c.in_err-make_anew.field-0.0 c.from_residual.result c.from_residual.ensures.1 (c.in_err-make_anew.ensures.cause clean)
+    passed_on (state g.S.Store c.args.tx.now.conn.now) (state g.S.Store c.make_anew.new.tx.conn.now) c.in_err-make_anew.field-0.0 c.from_residual.result c.from_residual.ensures.1 (c.in_err-make_anew.ensures.no_trace.cause clean)
