@@ -1,9 +1,8 @@
 //! Audits a database.
 ghost use Rattle.std.specs.Prelude.{◌≡◌, false, IfErr, IfOk, MatchOption};
 ghost use Rattle.sqlite.specs.Held.{state};
-ghost use Rattle.sqlite.specs.State.{HasCleanDisk, Survives, is_disk_error};
-ghost use Rattle.sql_base.specs.Causes.{HadCause};
-ghost use Rattle.sql_base.specs.Ends.{IsKept};
+ghost use Rattle.sqlite.specs.State.{HasCleanDisk, is_disk_error};
+ghost use Rattle.sql_base.specs.Unchanged.{LooksWithCause};
 ghost use Rattle.sql_tables.specs.Ours.{AreThere};
 ghost use Rattle.sql_tables.specs.Versions.{schema_of};
 ghost use Rattle.table_reads.specs.Holding.{IsOfVersion};
@@ -35,12 +34,7 @@ fn own_version<S: Alter>(alloc: Global, conn: &mut Connection<S>) -> Result<Opti
         ((v : _) → ¬ IsOfVersion v (state S.Store conn.old).now)
         (λ v. IsOfVersion v (state S.Store conn.old).now
         × AreThere (state S.Store conn.old).now.schema (schema_of v).tables)) }
-    ensures kept { HasCleanDisk (state S.Store conn.new)
-        → IsKept (state S.Store conn.old) (state S.Store conn.new) }
-    ensures idle { conn.new.in_transaction ≡ false }
-    ensures survives { Survives (state S.Store conn.old) (state S.Store conn.new) (λ _. ⊥) }
-    ensures cause { HasCleanDisk (state S.Store conn.new) → IfErr result
-        (HadCause S.Store (state S.Store conn.old) (state S.Store conn.new)) }
+    ensures looks { LooksWithCause S.Store conn.old conn.new result }
 {
     let Some(version) = version_in(alloc, conn)? else {
         return Ok(None);
@@ -81,12 +75,7 @@ pub(crate) fn audit<S: Alter>(alloc: Global, conn: &mut Connection<S>) -> Result
     requires { conn.old.in_transaction ≡ false }
     ensures value { HasCleanDisk (state S.Store conn.new)
         → IfOk result (λ found. IsFinding found (state S.Store conn.old).now) }
-    ensures kept { HasCleanDisk (state S.Store conn.new)
-        → IsKept (state S.Store conn.old) (state S.Store conn.new) }
-    ensures idle { conn.new.in_transaction ≡ false }
-    ensures survives { Survives (state S.Store conn.old) (state S.Store conn.new) (λ _. ⊥) }
-    ensures cause { HasCleanDisk (state S.Store conn.new) → IfErr result
-        (HadCause S.Store (state S.Store conn.old) (state S.Store conn.new)) }
+    ensures looks { LooksWithCause S.Store conn.old conn.new result }
 {
     let Some(version) = own_version(alloc, conn)? else {
         return Ok(Found::NotOurs);

@@ -1,8 +1,8 @@
 //! Reads and audits a database, and finds the difference of its tables from a schema version.
 ghost use Rattle.std.specs.Prelude.{◌≡◌, false, IfOk, IsTrue};
 ghost use Rattle.sqlite.specs.Held.{state};
-ghost use Rattle.sqlite.specs.State.{HasCleanDisk, Survives};
-ghost use Rattle.sql_base.specs.Ends.{IsKept};
+ghost use Rattle.sqlite.specs.State.{HasCleanDisk};
+ghost use Rattle.sql_base.specs.Unchanged.{Looks};
 ghost use Rattle.sql_tables.specs.Ours.{AreThere};
 ghost use Rattle.sql_tables.specs.Versions.{schema_of};
 ghost use Rattle.table_reads.specs.Holding.{IsOfVersion};
@@ -56,10 +56,7 @@ fn read<S: Alter>(
         → AreThere (state S.Store conn.old).now.schema (schema_of version).tables
         → Agrees (state S.Store conn.old).now found)) }
     ensures whole { IfOk result IsWhole }
-    ensures kept { HasCleanDisk (state S.Store conn.new)
-        → IsKept (state S.Store conn.old) (state S.Store conn.new) }
-    ensures idle { conn.new.in_transaction ≡ false }
-    ensures survives { Survives (state S.Store conn.old) (state S.Store conn.new) (λ _. ⊥) }
+    ensures looks { Looks (state S.Store conn.old) (state S.Store conn.new) }
 {
     let Some(tables) = read_all(alloc, conn, version)? else {
         return Ok(Finding::Unreadable);
@@ -75,10 +72,7 @@ fn read_ours<S: Alter>(alloc: Global, conn: &mut Connection<S>) -> Result<Findin
         (λ found. IsTrue (state S.Store conn.old).is_open
         × Agrees (state S.Store conn.old).now found) }
     ensures whole { IfOk result IsWhole }
-    ensures kept { HasCleanDisk (state S.Store conn.new)
-        → IsKept (state S.Store conn.old) (state S.Store conn.new) }
-    ensures idle { conn.new.in_transaction ≡ false }
-    ensures survives { Survives (state S.Store conn.old) (state S.Store conn.new) (λ _. ⊥) }
+    ensures looks { Looks (state S.Store conn.old) (state S.Store conn.new) }
 {
     let Some(version) = version_in(alloc, conn)? else {
         return Err(changed());
@@ -102,10 +96,7 @@ pub(crate) fn find<S: Alter>(alloc: Global, conn: &mut Connection<S>) -> Result<
     ensures value { HasCleanDisk (state S.Store conn.new)
         → IfOk result (Agrees (state S.Store conn.old).now) }
     ensures whole { IfOk result IsWhole }
-    ensures kept { HasCleanDisk (state S.Store conn.new)
-        → IsKept (state S.Store conn.old) (state S.Store conn.new) }
-    ensures idle { conn.new.in_transaction ≡ false }
-    ensures survives { Survives (state S.Store conn.old) (state S.Store conn.new) (λ _. ⊥) }
+    ensures looks { Looks (state S.Store conn.old) (state S.Store conn.new) }
 {
     match find_difference(alloc, conn)? {
         None => read_ours(alloc, conn),

@@ -1,8 +1,8 @@
 //! Reads and audits a database.
 ghost use Rattle.std.specs.Prelude.{◌≡◌, false, IfErr, IfOk};
 ghost use Rattle.sqlite.specs.Held.{state};
-ghost use Rattle.sqlite.specs.State.{HasCleanDisk, Survives};
-ghost use Rattle.sql_base.specs.Ends.{IsKept};
+ghost use Rattle.sqlite.specs.State.{HasCleanDisk};
+ghost use Rattle.sql_base.specs.Unchanged.{Looks};
 ghost use Rattle.over_tables.specs.Refusals.{Explains};
 ghost use Rattle.book_file.specs.Found.{HasVerdict, IsFound, answer_of};
 
@@ -49,10 +49,7 @@ pub fn read_book<S: Alter>(alloc: Global, conn: &mut Connection<S>) -> Result<Bo
     ensures verdict { IfOk result (λ book. HasVerdict book.tables book.failing) }
     ensures why { HasCleanDisk (state S.Store conn.new)
         → IfErr result (Explains (state S.Store conn.old).now) }
-    ensures kept { HasCleanDisk (state S.Store conn.new)
-        → IsKept (state S.Store conn.old) (state S.Store conn.new) }
-    ensures idle { conn.new.in_transaction ≡ false }
-    ensures survives { Survives (state S.Store conn.old) (state S.Store conn.new) (λ _. ⊥) }
+    ensures looks { Looks (state S.Store conn.old) (state S.Store conn.new) }
 {
     answer_of(find(alloc, conn))
 }

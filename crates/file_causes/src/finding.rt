@@ -1,9 +1,8 @@
 //! Finds the cause for refusing a database.
 ghost use Rattle.std.specs.Prelude.{◌≡◌, false, IfErr, IfOk, IfSome, MatchOption, option_map};
 ghost use Rattle.sqlite.specs.Held.{state};
-ghost use Rattle.sqlite.specs.State.{HasCleanDisk, Survives, is_disk_error};
-ghost use Rattle.sql_base.specs.Causes.{HadCause};
-ghost use Rattle.sql_base.specs.Ends.{IsKept};
+ghost use Rattle.sqlite.specs.State.{HasCleanDisk, is_disk_error};
+ghost use Rattle.sql_base.specs.Unchanged.{LooksWithCause};
 ghost use Rattle.sql_tables.specs.Alike.{HasJust};
 ghost use Rattle.sql_tables.specs.Versions.{schema_of};
 ghost use Rattle.sql_tables.specs.declared.versions.Version.{Version as OfVersion};
@@ -50,12 +49,7 @@ fn standing_of<S: Alter>(alloc: Global, conn: &mut Connection<S>) -> Result<Stan
     requires { conn.old.in_transaction ≡ false }
     ensures value { HasCleanDisk (state S.Store conn.new)
         → IfOk result (Stands (state S.Store conn.old).now) }
-    ensures kept { HasCleanDisk (state S.Store conn.new)
-        → IsKept (state S.Store conn.old) (state S.Store conn.new) }
-    ensures idle { conn.new.in_transaction ≡ false }
-    ensures survives { Survives (state S.Store conn.old) (state S.Store conn.new) (λ _. ⊥) }
-    ensures cause { HasCleanDisk (state S.Store conn.new) → IfErr result
-        (HadCause S.Store (state S.Store conn.old) (state S.Store conn.new)) }
+    ensures looks { LooksWithCause S.Store conn.old conn.new result }
 {
     let Some(version) = version_in(alloc, conn)? else {
         let difference = nearest_difference(alloc, conn)?;
@@ -85,12 +79,7 @@ pub fn find_difference<S: Alter>(
         (SaysHow (state S.Store conn.old).now)) }
     ensures not_ours { HasCleanDisk (state S.Store conn.new) → IfOk result
         (λ found. IfSome found (λ _. IsNotOurs (state S.Store conn.old).now)) }
-    ensures kept { HasCleanDisk (state S.Store conn.new)
-        → IsKept (state S.Store conn.old) (state S.Store conn.new) }
-    ensures idle { conn.new.in_transaction ≡ false }
-    ensures survives { Survives (state S.Store conn.old) (state S.Store conn.new) (λ _. ⊥) }
-    ensures cause { HasCleanDisk (state S.Store conn.new) → IfErr result
-        (HadCause S.Store (state S.Store conn.old) (state S.Store conn.new)) }
+    ensures looks { LooksWithCause S.Store conn.old conn.new result }
 {
     match standing_of(alloc, conn)? {
         Standing::Ours { version: _ } => Ok(None),
@@ -127,12 +116,7 @@ pub fn find_damage<S: Alter>(
     requires { conn.old.in_transaction ≡ false }
     ensures value { HasCleanDisk (state S.Store conn.new) → IfOk result (λ found. MatchOption found
         (IsUndamaged (state S.Store conn.old).now) (SaysWhat (state S.Store conn.old).now)) }
-    ensures kept { HasCleanDisk (state S.Store conn.new)
-        → IsKept (state S.Store conn.old) (state S.Store conn.new) }
-    ensures idle { conn.new.in_transaction ≡ false }
-    ensures survives { Survives (state S.Store conn.old) (state S.Store conn.new) (λ _. ⊥) }
-    ensures cause { HasCleanDisk (state S.Store conn.new) → IfErr result
-        (HadCause S.Store (state S.Store conn.old) (state S.Store conn.new)) }
+    ensures looks { LooksWithCause S.Store conn.old conn.new result }
 {
     let version = match standing_of(alloc, conn)? {
         Standing::Ours { version } => version,

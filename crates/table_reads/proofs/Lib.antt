@@ -20,3 +20,4 @@ pub mod OurImage
 pub mod AnyOrder
 pub mod SaidVersion
 pub mod Causes
+pub mod Looking

@@ -6,7 +6,6 @@ use Rattle.sqlite.specs.Effect.{Database}
 use Rattle.sqlite.specs.Order.{Row}
 use Rattle.sqlite.specs.State.{HasCleanDisk, State, Survives}
 use Rattle.sqlite.specs.Table.{Table}
-use Rattle.sqlite.proofs.StateLemmas.{survives_then}
 use Rattle.sql_base.specs.Ends.{IsKept}
 use Rattle.sql_base.specs.Rowids.{AreApart}
 use Rattle.sql_rows.specs.Image.{given_rows}
@@ -20,13 +19,6 @@ use Rattle.table_reads.specs.declared.reads.TableRows.{TableRows}
 
 pub early : (old new : State) → Survives old new (λ _. ⊥) → HasCleanDisk new → HasCleanDisk old
 early old new survives clean = omega (arith, survives.clean)
-
--- Several reads, one after the other, commit nothing.
-pub outlives : {a b c : State} → Survives a b (λ _. ⊥) → Survives b c (λ _. ⊥) → Survives a c (λ _. ⊥)
-outlives {a} {b} {c} one two = survives_then a b c _ _ _ (λ _ db none. none) (λ _ db none. none) one two
-
-pub outlives_four : {a b c d e : State} → Survives a b (λ _. ⊥) → Survives b c (λ _. ⊥) → Survives c d (λ _. ⊥) → Survives d e (λ _. ⊥) → Survives a e (λ _. ⊥)
-outlives_four one two three four = outlives (outlives one two) (outlives three four)
 
 -- ---- the results
 

@@ -1,14 +1,13 @@
 //! Reads a whole table, regardless of the order of its rows and its tree number.
-ghost use Rattle.std.specs.Prelude.{◌≡◌, ◌↔◌, ℕ, false, map, List, IfErr, IfOk, IsPermutation};
+ghost use Rattle.std.specs.Prelude.{◌≡◌, ◌↔◌, ℕ, false, map, List, IfOk, IsPermutation};
 ghost use Rattle.std.specs.Prelude.{IsTrue, MatchOption};
 ghost use Rattle.sqlite.specs.Effect.{IsDatabase};
 ghost use Rattle.sqlite.specs.Held.{state};
-ghost use Rattle.sqlite.specs.State.{HasCleanDisk, Survives};
+ghost use Rattle.sqlite.specs.State.{HasCleanDisk};
 ghost use Rattle.sqlite.specs.Table.{Table};
 ghost use Rattle.sqlite.specs.Term.{Term};
-ghost use Rattle.sql_base.specs.Causes.{HadCause};
-ghost use Rattle.sql_base.specs.Ends.{IsKept};
 ghost use Rattle.sql_base.specs.Rowids.{AreApart};
+ghost use Rattle.sql_base.specs.Unchanged.{LooksWithCause};
 ghost use Rattle.sql_tables.specs.Finds.{Finds};
 ghost use Rattle.sql_rows.specs.Image.{given_rows};
 ghost use Rattle.table_reads.specs.Converted.{AreConverted};
@@ -43,12 +42,7 @@ pub(crate) fn shown_rows<S: Alter>(
         → Asks (state S.Store conn.old).now.schema sql.now tree (with_rowid columns)
         → AreShown (with_rowid columns) ((state S.Store conn.old).now.trees tree)
         shown.rows.items shown.apart)) }
-    ensures kept { HasCleanDisk (state S.Store conn.new)
-        → IsKept (state S.Store conn.old) (state S.Store conn.new) }
-    ensures idle { conn.new.in_transaction ≡ false }
-    ensures survives { Survives (state S.Store conn.old) (state S.Store conn.new) (λ _. ⊥) }
-    ensures cause { HasCleanDisk (state S.Store conn.new) → IfErr result
-        (HadCause S.Store (state S.Store conn.old) (state S.Store conn.new)) }
+    ensures looks { LooksWithCause S.Store conn.old conn.new result }
 {
     laws::is_live(conn);
     let mut rows = rows_of(conn, sql, &[])?;
@@ -68,12 +62,7 @@ fn collected<X: Drop, C: Conversion<X>, S: Alter>(
         (λ found. IsTrue (state S.Store conn.old).is_open
         × IsDatabase (state S.Store conn.old).now
         × AreConverted C.is_row C.gives sql.now (state S.Store conn.old).now found) }
-    ensures kept { HasCleanDisk (state S.Store conn.new)
-        → IsKept (state S.Store conn.old) (state S.Store conn.new) }
-    ensures idle { conn.new.in_transaction ≡ false }
-    ensures survives { Survives (state S.Store conn.old) (state S.Store conn.new) (λ _. ⊥) }
-    ensures cause { HasCleanDisk (state S.Store conn.new) → IfErr result
-        (HadCause S.Store (state S.Store conn.old) (state S.Store conn.new)) }
+    ensures looks { LooksWithCause S.Store conn.old conn.new result }
 {
     let shown = shown_rows(conn, sql)?;
     let alloc = *shown.rows.allocator();
@@ -98,12 +87,7 @@ pub(crate) fn converted<X: Drop, C: Conversion<X>, S: Alter>(
         (λ found. IsTrue (state S.Store conn.old).is_open
         × IsDatabase (state S.Store conn.old).now
         × AreConverted C.is_row C.gives sql.now (state S.Store conn.old).now found) }
-    ensures kept { HasCleanDisk (state S.Store conn.new)
-        → IsKept (state S.Store conn.old) (state S.Store conn.new) }
-    ensures idle { conn.new.in_transaction ≡ false }
-    ensures survives { Survives (state S.Store conn.old) (state S.Store conn.new) (λ _. ⊥) }
-    ensures cause { HasCleanDisk (state S.Store conn.new) → IfErr result
-        (HadCause S.Store (state S.Store conn.old) (state S.Store conn.new)) }
+    ensures looks { LooksWithCause S.Store conn.old conn.new result }
 {
     if let Some(rows) = streamed::<X, C, S>(alloc, conn, sql)? {
         return Ok(Some(TableRows { rows, apart: true }));
@@ -129,12 +113,7 @@ pub fn whole<T: Stored, S: Alter>(
         (λ all. IsPermutation (map T.encode all.rows.items)
         (given_rows T.by_rowid ((state S.Store conn.old).now.trees tree))
         × (IsTrue all.apart ↔ AreApart ((state S.Store conn.old).now.trees tree))))) }
-    ensures kept { HasCleanDisk (state S.Store conn.new)
-        → IsKept (state S.Store conn.old) (state S.Store conn.new) }
-    ensures idle { conn.new.in_transaction ≡ false }
-    ensures survives { Survives (state S.Store conn.old) (state S.Store conn.new) (λ _. ⊥) }
-    ensures cause { HasCleanDisk (state S.Store conn.new) → IfErr result
-        (HadCause S.Store (state S.Store conn.old) (state S.Store conn.new)) }
+    ensures looks { LooksWithCause S.Store conn.old conn.new result }
 {
     converted::<T, WholeRow, S>(alloc, conn, sql)
 }

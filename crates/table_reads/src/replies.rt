@@ -1,12 +1,11 @@
 //! Reads replies without their request bytes and bodies, which the audit doesn't need, and reads
 //! these bytes later if they are needed.
-ghost use Rattle.std.specs.Prelude.{◌≡◌, ◌↔◌, ℕ, false, map, All, IfErr, IfOk, IsTrue};
-ghost use Rattle.std.specs.Prelude.{MatchOption, MatchResult};
+ghost use Rattle.std.specs.Prelude.{◌≡◌, ◌↔◌, ℕ, false, map, All, IfOk, IsTrue};
+ghost use Rattle.std.specs.Prelude.{MatchOption};
 ghost use Rattle.sqlite.specs.Held.{state};
-ghost use Rattle.sqlite.specs.State.{HasCleanDisk, Survives, is_disk_error};
-ghost use Rattle.sql_base.specs.Causes.{HadCause};
-ghost use Rattle.sql_base.specs.Ends.{IsKept};
+ghost use Rattle.sqlite.specs.State.{HasCleanDisk, is_disk_error};
 ghost use Rattle.sql_base.specs.Rowids.{AreApart};
+ghost use Rattle.sql_base.specs.Unchanged.{LooksWithCause};
 ghost use Rattle.sql_rows.specs.Encoding.{reply_row};
 ghost use Rattle.sql_rows.specs.Image.{given_rows};
 ghost use Rattle.sql_tables.specs.Finds.{Finds};
@@ -71,12 +70,7 @@ pub(crate) fn brief_replies<S: Alter>(
         (λ all. StandWithoutBytes all.rows.items
         (given_rows false ((state S.Store conn.old).now.trees tree))
         × (IsTrue all.apart ↔ AreApart ((state S.Store conn.old).now.trees tree))))) }
-    ensures kept { HasCleanDisk (state S.Store conn.new)
-        → IsKept (state S.Store conn.old) (state S.Store conn.new) }
-    ensures idle { conn.new.in_transaction ≡ false }
-    ensures survives { Survives (state S.Store conn.old) (state S.Store conn.new) (λ _. ⊥) }
-    ensures cause { HasCleanDisk (state S.Store conn.new) → IfErr result
-        (HadCause S.Store (state S.Store conn.old) (state S.Store conn.new)) }
+    ensures looks { LooksWithCause S.Store conn.old conn.new result }
 {
     let sql = "SELECT rowid, client, number, status FROM reply";
     converted::<StoredReply, BriefReply, S>(alloc, conn, sql)
@@ -95,12 +89,7 @@ pub fn with_reply_bytes<S: Alter>(
         → HoldsRows v t (state S.Store conn.old).now
         → HaveSameRows tables (without_reply_bytes t)
         → MatchOption found ⊥ (λ all. HaveSameRows all t))) }
-    ensures kept { HasCleanDisk (state S.Store conn.new)
-        → IsKept (state S.Store conn.old) (state S.Store conn.new) }
-    ensures idle { conn.new.in_transaction ≡ false }
-    ensures survives { Survives (state S.Store conn.old) (state S.Store conn.new) (λ _. ⊥) }
-    ensures cause { HasCleanDisk (state S.Store conn.new) → IfErr result
-        (HadCause S.Store (state S.Store conn.old) (state S.Store conn.new)) }
+    ensures looks { LooksWithCause S.Store conn.old conn.new result }
 {
     let alloc = *tables.replies.allocator();
     let Some(replies) = whole(alloc, conn, "SELECT rowid, * FROM reply")? else {

@@ -10,6 +10,7 @@ ghost use Rattle.sqlite_ast.specs.declared.Select.{Select as Query};
 ghost use Rattle.sqlite_ast.specs.declared.Statement.TheVariants.{Select};
 ghost use Rattle.sql_base.specs.Causes.{HadCause};
 ghost use Rattle.sql_base.specs.Ends.{IsKept};
+ghost use Rattle.sql_base.specs.Unchanged.{LooksWithCause};
 ghost use Rattle.table_reads.specs.Converted.{AreTyped};
 ghost use Rattle.table_reads.specs.Streaming.{IsAbove, HasNoReturning, StandSoFar};
 ghost use Rattle.table_reads.specs.Whole.{Asks, with_rowid};
@@ -137,12 +138,7 @@ pub(crate) fn streamed<X: Drop, C: Conversion<X>, S: Alter>(
         → Asks (state S.Store conn.old).now.schema sql.now tree (with_rowid columns)
         → AreTyped C.gives (with_rowid columns) ((state S.Store conn.old).now.trees tree)
         all.items true))) }
-    ensures kept { HasCleanDisk (state S.Store conn.new)
-        → IsKept (state S.Store conn.old) (state S.Store conn.new) }
-    ensures idle { conn.new.in_transaction ≡ false }
-    ensures survives { Survives (state S.Store conn.old) (state S.Store conn.new) (λ _. ⊥) }
-    ensures cause { HasCleanDisk (state S.Store conn.new) → IfErr result
-        (HadCause S.Store (state S.Store conn.old) (state S.Store conn.new)) }
+    ensures looks { LooksWithCause S.Store conn.old conn.new result }
 {
     if !is_query(alloc, sql) {
         return Ok(None);

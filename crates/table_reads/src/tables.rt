@@ -1,9 +1,8 @@
 //! Reads all tables, one after the other.
-ghost use Rattle.std.specs.Prelude.{◌≡◌, ◌&&◌, false, IfErr, IfOk, MatchOption};
+ghost use Rattle.std.specs.Prelude.{◌≡◌, ◌&&◌, false, IfOk, MatchOption};
 ghost use Rattle.sqlite.specs.Held.{state};
-ghost use Rattle.sqlite.specs.State.{HasCleanDisk, Survives};
-ghost use Rattle.sql_base.specs.Causes.{HadCause};
-ghost use Rattle.sql_base.specs.Ends.{IsKept};
+ghost use Rattle.sqlite.specs.State.{HasCleanDisk};
+ghost use Rattle.sql_base.specs.Unchanged.{LooksWithCause};
 ghost use Rattle.table_reads.specs.Reading.{HasForAudit, HasGroupings, HasMarks, HasMost};
 ghost use Rattle.table_reads.specs.Reading.{HasRows, HoldsNoneOf, Reads, held_of};
 
@@ -81,12 +80,7 @@ fn groupings<S: Alter>(
     requires { conn.old.in_transaction ≡ false }
     ensures value { HasCleanDisk (state S.Store conn.new) → IfOk result
         (Reads (HoldsNoneOf version) (HasGroupings version) (state S.Store conn.old)) }
-    ensures kept { HasCleanDisk (state S.Store conn.new)
-        → IsKept (state S.Store conn.old) (state S.Store conn.new) }
-    ensures idle { conn.new.in_transaction ≡ false }
-    ensures survives { Survives (state S.Store conn.old) (state S.Store conn.new) (λ _. ⊥) }
-    ensures cause { HasCleanDisk (state S.Store conn.new) → IfErr result
-        (HadCause S.Store (state S.Store conn.old) (state S.Store conn.new)) }
+    ensures looks { LooksWithCause S.Store conn.old conn.new result }
 {
     match version {
         Version::One | Version::Two => whole(alloc, conn, "SELECT rowid, * FROM grouping"),
@@ -104,12 +98,7 @@ fn marks<S: Alter>(
     ensures value { HasCleanDisk (state S.Store conn.new) → IfOk result (λ found.
         MatchOption found (HoldsNoneOf version (state S.Store conn.old).now)
         (HasMarks version (state S.Store conn.old).now)) }
-    ensures kept { HasCleanDisk (state S.Store conn.new)
-        → IsKept (state S.Store conn.old) (state S.Store conn.new) }
-    ensures idle { conn.new.in_transaction ≡ false }
-    ensures survives { Survives (state S.Store conn.old) (state S.Store conn.new) (λ _. ⊥) }
-    ensures cause { HasCleanDisk (state S.Store conn.new) → IfErr result
-        (HadCause S.Store (state S.Store conn.old) (state S.Store conn.new)) }
+    ensures looks { LooksWithCause S.Store conn.old conn.new result }
 {
     match version {
         Version::One => Ok(Some(TableRows {
@@ -130,12 +119,7 @@ fn read_most<S: Alter>(
     requires { conn.old.in_transaction ≡ false }
     ensures value { HasCleanDisk (state S.Store conn.new) → IfOk result
         (Reads (HoldsNoneOf version) (HasMost version) (state S.Store conn.old)) }
-    ensures kept { HasCleanDisk (state S.Store conn.new)
-        → IsKept (state S.Store conn.old) (state S.Store conn.new) }
-    ensures idle { conn.new.in_transaction ≡ false }
-    ensures survives { Survives (state S.Store conn.old) (state S.Store conn.new) (λ _. ⊥) }
-    ensures cause { HasCleanDisk (state S.Store conn.new) → IfErr result
-        (HadCause S.Store (state S.Store conn.old) (state S.Store conn.new)) }
+    ensures looks { LooksWithCause S.Store conn.old conn.new result }
 {
     let marks = marks(alloc, conn, version)?;
     let words = whole(alloc, conn, "SELECT rowid, * FROM word")?;
@@ -178,12 +162,7 @@ pub fn read_for_audit<S: Alter>(
     requires { conn.old.in_transaction ≡ false }
     ensures value { HasCleanDisk (state S.Store conn.new) → IfOk result
         (Reads (HoldsNoneOf version) (HasForAudit version) (state S.Store conn.old)) }
-    ensures kept { HasCleanDisk (state S.Store conn.new)
-        → IsKept (state S.Store conn.old) (state S.Store conn.new) }
-    ensures idle { conn.new.in_transaction ≡ false }
-    ensures survives { Survives (state S.Store conn.old) (state S.Store conn.new) (λ _. ⊥) }
-    ensures cause { HasCleanDisk (state S.Store conn.new) → IfErr result
-        (HadCause S.Store (state S.Store conn.old) (state S.Store conn.new)) }
+    ensures looks { LooksWithCause S.Store conn.old conn.new result }
 {
     let Some(mut held) = read_most(alloc, conn, version)? else {
         return Ok(None);
@@ -208,12 +187,7 @@ pub fn read_all<S: Alter>(
     ensures value { HasCleanDisk (state S.Store conn.new) → IfOk result
         (Reads (HoldsNoneOf version) (HasRows version)
         (state S.Store conn.old)) }
-    ensures kept { HasCleanDisk (state S.Store conn.new)
-        → IsKept (state S.Store conn.old) (state S.Store conn.new) }
-    ensures idle { conn.new.in_transaction ≡ false }
-    ensures survives { Survives (state S.Store conn.old) (state S.Store conn.new) (λ _. ⊥) }
-    ensures cause { HasCleanDisk (state S.Store conn.new) → IfErr result
-        (HadCause S.Store (state S.Store conn.old) (state S.Store conn.new)) }
+    ensures looks { LooksWithCause S.Store conn.old conn.new result }
 {
     let Some(held) = read_most(alloc, conn, version)? else {
         return Ok(None);

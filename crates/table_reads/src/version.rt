@@ -1,11 +1,10 @@
 //! Reads the row of `version`.
-ghost use Rattle.std.specs.Prelude.{◌≡◌, ◌↔◌, ℕ, [], ◌∷◌, false, true, IfErr, IfOk};
+ghost use Rattle.std.specs.Prelude.{◌≡◌, ◌↔◌, ℕ, [], ◌∷◌, false, true, IfOk};
 ghost use Rattle.std.specs.Prelude.{IsPermutation, IsTrue};
 ghost use Rattle.sqlite.specs.Held.{state};
 ghost use Rattle.sqlite.specs.Order.{column};
-ghost use Rattle.sqlite.specs.State.{HasCleanDisk, Survives};
-ghost use Rattle.sql_base.specs.Causes.{HadCause};
-ghost use Rattle.sql_base.specs.Ends.{IsKept};
+ghost use Rattle.sqlite.specs.State.{HasCleanDisk};
+ghost use Rattle.sql_base.specs.Unchanged.{LooksWithCause};
 ghost use Rattle.sql_tables.specs.Finds.{Finds};
 ghost use Rattle.sql_tables.specs.Ours.{AreThere};
 ghost use Rattle.sql_tables.specs.Versions.{numbered_version_at, schema_of};
@@ -49,12 +48,7 @@ fn says_version<S: Alter>(conn: &mut Connection<S>, version: u64) -> Result<bool
         → Finds (state S.Store conn.old).now.schema (numbered_version_at n tree)
         → IsTrue says ↔ IsPermutation (numbered_row version ∷ [])
         (given_rows true ((state S.Store conn.old).now.trees tree)))) }
-    ensures kept { HasCleanDisk (state S.Store conn.new)
-        → IsKept (state S.Store conn.old) (state S.Store conn.new) }
-    ensures idle { conn.new.in_transaction ≡ false }
-    ensures survives { Survives (state S.Store conn.old) (state S.Store conn.new) (λ _. ⊥) }
-    ensures cause { HasCleanDisk (state S.Store conn.new) → IfErr result
-        (HadCause S.Store (state S.Store conn.old) (state S.Store conn.new)) }
+    ensures looks { LooksWithCause S.Store conn.old conn.new result }
 {
     let shown = shown_rows(conn, "SELECT * FROM version")?;
     Ok(is_version_alone(shown.rows.as_slice(), version))
@@ -79,12 +73,7 @@ pub fn says<S: Alter>(conn: &mut Connection<S>, version: Version) -> Result<bool
         (λ says. IsTrue (state S.Store conn.old).is_open
         × (AreThere (state S.Store conn.old).now.schema (schema_of version).tables
         → IsTrue says ↔ SaysVersion version (state S.Store conn.old).now)) }
-    ensures kept { HasCleanDisk (state S.Store conn.new)
-        → IsKept (state S.Store conn.old) (state S.Store conn.new) }
-    ensures idle { conn.new.in_transaction ≡ false }
-    ensures survives { Survives (state S.Store conn.old) (state S.Store conn.new) (λ _. ⊥) }
-    ensures cause { HasCleanDisk (state S.Store conn.new) → IfErr result
-        (HadCause S.Store (state S.Store conn.old) (state S.Store conn.new)) }
+    ensures looks { LooksWithCause S.Store conn.old conn.new result }
 {
     says_version(conn, number(version))
 }

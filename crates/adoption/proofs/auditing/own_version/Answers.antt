@@ -1,8 +1,7 @@
-use Rattle.sqlite.specs.Held.{state}
-use Rattle.table_reads.proofs.Causes.{passed_plain}
+use Rattle.table_reads.proofs.Looking.{fails_unread}
 use Rattle.adoption.proofs.auditing.own_version.Goals as goal
 
-pub returns-in_err-version-clause-cause : goal.returns-in_err-version-clause-cause
-returns-in_err-version-clause-cause g c clean =
+pub returns-in_err-version-clause-looks : goal.returns-in_err-version-clause-looks
+returns-in_err-version-clause-looks g c =
     let r = c.from_residual in
-    passed_plain g.S.Store (state g.S.Store c.args.conn.now) c.args.conn.now r.result c.in_err-version.field-0.0 r.ensures.1 c.in_err-version.ensures.cause
+    fails_unread g.S.Store c.args.conn.now c.requires r.result c.in_err-version.field-0.0 r.ensures.1 c.in_err-version.ensures.cause

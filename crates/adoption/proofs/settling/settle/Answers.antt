@@ -8,10 +8,10 @@ pub returns-then-branch-clause-ok : goal.returns-then-branch-clause-ok
 returns-then-branch-clause-ok g c clean =
     let stay = c.in_ok-can_stay.ensures.0 c.if-branch.true in
     stays g.S.Store g.met.S.Store.settled c.args.conn.now c.stay_open.new.conn c.args.version c.args.rows c.our_rows_are_an_image.ensures.image
-    c.is_committed.ensures c.is_live.ensures clean stay.0 stay.1 (c.stay_open.ensures.kept clean) c.stay_open.ensures.survives c.stay_open.result (c.stay_open.ensures.open clean)
+    c.is_committed.ensures c.is_live.ensures clean stay.0 stay.1 (c.stay_open.ensures.looks.kept clean) c.stay_open.ensures.looks.survives c.stay_open.result (c.stay_open.ensures.open clean)
 
 pub returns-then-branch-clause-unchanged : goal.returns-then-branch-clause-unchanged
-returns-then-branch-clause-unchanged g c t is clean stand = only_read (state g.S.Store c.args.conn.now) (state g.S.Store c.stay_open.new.conn) c.stay_open.ensures.kept c.stay_open.ensures.survives clean
+returns-then-branch-clause-unchanged g c t is clean stand = only_read (state g.S.Store c.args.conn.now) (state g.S.Store c.stay_open.new.conn) c.stay_open.ensures.looks.kept c.stay_open.ensures.looks.survives clean
 
 -- Tables that are as the store creates them need not be rebuilt.
 pub returns-clause-unchanged : goal.returns-clause-unchanged

@@ -5,7 +5,7 @@ pub returns-clause-read : goal.returns-clause-read
 returns-clause-read g c clean =
     let stays = g.met.D.Disk.seen_may_stay in
     let last = c.read_book-read.new.conn in
-    let survives = c.read_book-read.ensures.survives in
+    let survives = c.read_book-read.ensures.looks.survives in
     let late = clean_last stays c.args.conn last survives c.leave-files.result c.leave-files.ensures clean in
     record {
       was_clean = clean_first stays c.args.conn last survives c.leave-files.result c.leave-files.ensures clean;

@@ -8,5 +8,5 @@ pub returns-in-None-clause-value : goal.returns-in-None-clause-value
 returns-in-None-clause-value g c clean =
     let old = state g.S.Store c.args.conn.now in
     let mid = state g.S.Store c.find_difference.new.conn in
-    let early : HasCleanDisk mid = omega (arith, c.read_ours.ensures.survives.clean) in
-    found_before old mid (c.in_ok-find_difference.ensures.kept early) c.read_ours.result (c.read_ours.ensures.value clean)
+    let early : HasCleanDisk mid = omega (arith, c.read_ours.ensures.looks.survives.clean) in
+    found_before old mid (c.in_ok-find_difference.ensures.looks.kept early) c.read_ours.result (c.read_ours.ensures.value clean)

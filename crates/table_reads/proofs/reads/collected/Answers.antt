@@ -1,7 +1,6 @@
 use Rattle.std.proofs.Common.{All, MatchOption, subst}
 use Rattle.std.specs.List.{AllZip}
-use Rattle.sqlite.specs.Held.{state}
-use Rattle.table_reads.proofs.Causes.{passed_plain}
+use Rattle.table_reads.proofs.Looking.{looks_plain}
 use Rattle.table_reads.proofs.reads.collected.Goals as goal
 
 pub returns-clause-value : goal.returns-clause-value
@@ -20,7 +19,7 @@ returns-in_default-clause-value g c clean =
     let none = subst (λ found. MatchOption found (All t.is_row rows → ⊥) (λ all. AllZip t.gives rows all.items)) c.in_default.is c.in_ok-rows.ensures in
     (shown.0, shown.1, λ tree columns asks. record { rows = rows; apart = c.in_ok-shown.shown.apart; shown = shown.2 tree columns asks; lack = none })
 
-pub returns-in_err-rows-clause-cause : goal.returns-in_err-rows-clause-cause
-returns-in_err-rows-clause-cause g c clean =
+pub returns-in_err-rows-clause-looks : goal.returns-in_err-rows-clause-looks
+returns-in_err-rows-clause-looks g c =
     let r = c.from_residual-in_err-rows in
-    passed_plain g.S.Store (state g.S.Store c.args.conn.now) c.shown_rows.new.conn r.result c.in_err-rows.field-0.0 r.ensures.1 c.in_err-rows.ensures
+    looks_plain c.shown_rows.ensures.looks r.result c.in_err-rows.field-0.0 r.ensures.1 c.in_err-rows.ensures

@@ -16,7 +16,12 @@ returns-clause-value g c clean =
     let is = subst (λ rs. IsTrue c.are_rising-apart.result ↔ AreRising rs) c.as_slice.ensures.value c.are_rising-apart.ensures in
     (live, (c.is_live.ensures live).0, λ tree columns asks. sorted_shown c.args.sql.now begun end rows shown.1 tree columns asks _ c.sort_rowids.ensures.same c.in_ok-sort_rowids.ensures.sorted _ is)
 
-pub returns-in_err-sort_rowids-clause-cause : goal.returns-in_err-sort_rowids-clause-cause
-returns-in_err-sort_rowids-clause-cause g c clean =
+pub returns-in_err-sort_rowids-clause-looks : goal.returns-in_err-sort_rowids-clause-looks
+returns-in_err-sort_rowids-clause-looks g c =
     let r = c.from_residual-in_err-sort_rowids in
-    passed_plain g.S.Store (state g.S.Store c.args.conn.now) c.rows_of.new.conn r.result _ r.ensures.1 refl
+    record {
+      kept = c.rows_of.ensures.kept;
+      idle = c.rows_of.ensures.idle;
+      survives = c.rows_of.ensures.survives;
+      cause = λ clean. passed_plain g.S.Store (state g.S.Store c.args.conn.now) c.rows_of.new.conn r.result _ r.ensures.1 refl;
+    }

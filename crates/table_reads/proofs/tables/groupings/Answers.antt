@@ -12,10 +12,7 @@ returns-in-One g c = record {
         | inl is ↦ subst (λ v. GroupingsRead v old found) (sym is) (unmixed_read_one old found value)
         | inr is ↦ subst (λ v. GroupingsRead v old found) (sym is) (unmixed_read_two old found value)
       ]) (c.whole.ensures.value clean);
-  kept = c.whole.ensures.kept;
-  idle = c.whole.ensures.idle;
-  survives = c.whole.ensures.survives;
-  cause = c.whole.ensures.cause;
+  looks = c.whole.ensures.looks;
 }
 
 pub returns-in-Three-clause-value : goal.returns-in-Three-clause-value

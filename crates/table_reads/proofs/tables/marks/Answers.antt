@@ -12,8 +12,5 @@ returns-in-Two g c = record {
         | inl is ↦ subst (λ v. MarksRead v old.now found) (sym is) (marks_read_two old found value)
         | inr is ↦ subst (λ v. MarksRead v old.now found) (sym is) (marks_read_three old found value)
       ]) (c.whole.ensures.value clean);
-  kept = c.whole.ensures.kept;
-  idle = c.whole.ensures.idle;
-  survives = c.whole.ensures.survives;
-  cause = c.whole.ensures.cause;
+  looks = c.whole.ensures.looks;
 }

@@ -7,29 +7,9 @@ use Rattle.table_reads.specs.Reading.{HasGroupings, HasMost, HoldsNoneOf}
 use Rattle.table_reads.proofs.RowsHeld.{most_read}
 use Rattle.table_reads.proofs.Meanings.{wholes}
 use Rattle.table_reads.proofs.TableReads.{read_of}
-use Rattle.table_reads.proofs.Together.{carried, early, outlives, outlives_four}
-use Rattle.table_reads.proofs.Causes.{passed_had}
+use Rattle.table_reads.proofs.Together.{carried, early}
+use Rattle.table_reads.proofs.Looking.{looks_past, looks_then, looks_well}
 use Rattle.table_reads.proofs.tables.read_most.Goals as goal
-
-pub returns-in_err-lots-clause-survives : goal.returns-in_err-lots-clause-survives
-returns-in_err-lots-clause-survives g c =
-    outlives (outlives_four c.marks.ensures.survives c.whole.ensures.survives c.whole-2.ensures.survives c.whole-3.ensures.survives)
-    (outlives_four c.whole-4.ensures.survives c.groupings.ensures.survives c.whole-5.ensures.survives c.whole-6.ensures.survives)
-
-pub returns-in_err-batches-clause-survives : goal.returns-in_err-batches-clause-survives
-returns-in_err-batches-clause-survives g c =
-    outlives (outlives (outlives_four c.marks.ensures.survives c.whole.ensures.survives c.whole-2.ensures.survives c.whole-3.ensures.survives)
-    (outlives_four c.whole-4.ensures.survives c.groupings.ensures.survives c.whole-5.ensures.survives c.whole-6.ensures.survives)) c.whole-7.ensures.survives
-
-pub returns-in_err-remakes-clause-survives : goal.returns-in_err-remakes-clause-survives
-returns-in_err-remakes-clause-survives g c =
-    outlives (outlives (outlives_four c.marks.ensures.survives c.whole.ensures.survives c.whole-2.ensures.survives c.whole-3.ensures.survives)
-    (outlives_four c.whole-4.ensures.survives c.groupings.ensures.survives c.whole-5.ensures.survives c.whole-6.ensures.survives)) (outlives c.whole-7.ensures.survives c.whole-8.ensures.survives)
-
-pub returns-clause-survives : goal.returns-clause-survives
-returns-clause-survives g c =
-    outlives (outlives (outlives_four c.marks.ensures.survives c.whole.ensures.survives c.whole-2.ensures.survives c.whole-3.ensures.survives)
-    (outlives_four c.whole-4.ensures.survives c.groupings.ensures.survives c.whole-5.ensures.survives c.whole-6.ensures.survives)) (outlives c.whole-7.ensures.survives c.whole-8.ensures.survives)
 
 pub returns-clause-value : goal.returns-clause-value
 returns-clause-value g c clean =
@@ -45,24 +25,24 @@ returns-clause-value g c clean =
     let s8 = state g.S.Store c.whole-6.new.conn in
     let s9 = state g.S.Store c.whole-7.new.conn in
     let s10 = state g.S.Store c.whole-8.new.conn in
-    let clean9 : HasCleanDisk s9 = early s9 s10 c.whole-8.ensures.survives clean in
-    let clean8 : HasCleanDisk s8 = early s8 s9 c.whole-7.ensures.survives clean9 in
-    let clean7 : HasCleanDisk s7 = early s7 s8 c.whole-6.ensures.survives clean8 in
-    let clean6 : HasCleanDisk s6 = early s6 s7 c.whole-5.ensures.survives clean7 in
-    let clean5 : HasCleanDisk s5 = early s5 s6 c.groupings.ensures.survives clean6 in
-    let clean4 : HasCleanDisk s4 = early s4 s5 c.whole-4.ensures.survives clean5 in
-    let clean3 : HasCleanDisk s3 = early s3 s4 c.whole-3.ensures.survives clean4 in
-    let clean2 : HasCleanDisk s2 = early s2 s3 c.whole-2.ensures.survives clean3 in
-    let clean1 : HasCleanDisk s1 = early s1 s2 c.whole.ensures.survives clean2 in
-    let kept1 = c.marks.ensures.kept clean1 in
-    let kept2 = kept_then s0 s1 s2 kept1 (c.whole.ensures.kept clean2) in
-    let kept3 = kept_then s0 s2 s3 kept2 (c.whole-2.ensures.kept clean3) in
-    let kept4 = kept_then s0 s3 s4 kept3 (c.whole-3.ensures.kept clean4) in
-    let kept5 = kept_then s0 s4 s5 kept4 (c.whole-4.ensures.kept clean5) in
-    let kept6 = kept_then s0 s5 s6 kept5 (c.groupings.ensures.kept clean6) in
-    let kept7 = kept_then s0 s6 s7 kept6 (c.whole-5.ensures.kept clean7) in
-    let kept8 = kept_then s0 s7 s8 kept7 (c.whole-6.ensures.kept clean8) in
-    let kept9 = kept_then s0 s8 s9 kept8 (c.whole-7.ensures.kept clean9) in
+    let clean9 : HasCleanDisk s9 = early s9 s10 c.whole-8.ensures.looks.survives clean in
+    let clean8 : HasCleanDisk s8 = early s8 s9 c.whole-7.ensures.looks.survives clean9 in
+    let clean7 : HasCleanDisk s7 = early s7 s8 c.whole-6.ensures.looks.survives clean8 in
+    let clean6 : HasCleanDisk s6 = early s6 s7 c.whole-5.ensures.looks.survives clean7 in
+    let clean5 : HasCleanDisk s5 = early s5 s6 c.groupings.ensures.looks.survives clean6 in
+    let clean4 : HasCleanDisk s4 = early s4 s5 c.whole-4.ensures.looks.survives clean5 in
+    let clean3 : HasCleanDisk s3 = early s3 s4 c.whole-3.ensures.looks.survives clean4 in
+    let clean2 : HasCleanDisk s2 = early s2 s3 c.whole-2.ensures.looks.survives clean3 in
+    let clean1 : HasCleanDisk s1 = early s1 s2 c.whole.ensures.looks.survives clean2 in
+    let kept1 = c.marks.ensures.looks.kept clean1 in
+    let kept2 = kept_then s0 s1 s2 kept1 (c.whole.ensures.looks.kept clean2) in
+    let kept3 = kept_then s0 s2 s3 kept2 (c.whole-2.ensures.looks.kept clean3) in
+    let kept4 = kept_then s0 s3 s4 kept3 (c.whole-3.ensures.looks.kept clean4) in
+    let kept5 = kept_then s0 s4 s5 kept4 (c.whole-4.ensures.looks.kept clean5) in
+    let kept6 = kept_then s0 s5 s6 kept5 (c.groupings.ensures.looks.kept clean6) in
+    let kept7 = kept_then s0 s6 s7 kept6 (c.whole-5.ensures.looks.kept clean7) in
+    let kept8 = kept_then s0 s7 s8 kept7 (c.whole-6.ensures.looks.kept clean8) in
+    let kept9 = kept_then s0 s8 s9 kept8 (c.whole-7.ensures.looks.kept clean9) in
     let first = c.in_ok-words.ensures.value clean2 in (
       kept1.was_open first.0,
       subst (λ all. MatchOption all (HoldsNoneOf v s0.now) (HasMost v s0.now)) (sym c.gathered.ensures)
@@ -79,54 +59,96 @@ returns-clause-value g c clean =
           (c.in_ok-marks.ensures.value clean1)),
     )
 
-pub returns-in_err-words-clause-cause : goal.returns-in_err-words-clause-cause
-returns-in_err-words-clause-cause g c clean =
+pub returns-in_err-words-clause-looks : goal.returns-in_err-words-clause-looks
+returns-in_err-words-clause-looks g c =
     let r = c.from_residual-in_err-words in
-    passed_had g.S.Store (state g.S.Store c.args.conn.now) (state g.S.Store c.marks.new.conn) (state g.S.Store c.whole.new.conn) c.marks.ensures.survives.counts r.result c.in_err-words.field-0.0 r.ensures.1 (c.in_err-words.ensures.cause clean)
+    looks_then c.marks.ensures.looks (looks_past c.whole.ensures.looks r.result c.in_err-words.field-0.0 r.ensures.1 c.in_err-words.ensures.looks.cause)
 
-pub returns-in_err-sessions-clause-cause : goal.returns-in_err-sessions-clause-cause
-returns-in_err-sessions-clause-cause g c clean =
+pub returns-in_err-sessions-clause-looks : goal.returns-in_err-sessions-clause-looks
+returns-in_err-sessions-clause-looks g c =
+    let by2 = looks_then c.marks.ensures.looks c.whole.ensures.looks in
     let r = c.from_residual-in_err-sessions in
-    passed_had g.S.Store (state g.S.Store c.args.conn.now) (state g.S.Store c.whole.new.conn) (state g.S.Store c.whole-2.new.conn) (outlives c.marks.ensures.survives c.whole.ensures.survives).counts r.result c.in_err-sessions.field-0.0 r.ensures.1 (c.in_err-sessions.ensures.cause clean)
+    looks_then by2 (looks_past c.whole-2.ensures.looks r.result c.in_err-sessions.field-0.0 r.ensures.1 c.in_err-sessions.ensures.looks.cause)
 
-pub returns-in_err-blanks-clause-cause : goal.returns-in_err-blanks-clause-cause
-returns-in_err-blanks-clause-cause g c clean =
+pub returns-in_err-blanks-clause-looks : goal.returns-in_err-blanks-clause-looks
+returns-in_err-blanks-clause-looks g c =
+    let by2 = looks_then c.marks.ensures.looks c.whole.ensures.looks in
+    let by3 = looks_then by2 c.whole-2.ensures.looks in
     let r = c.from_residual-in_err-blanks in
-    passed_had g.S.Store (state g.S.Store c.args.conn.now) (state g.S.Store c.whole-2.new.conn) (state g.S.Store c.whole-3.new.conn) (outlives (outlives c.marks.ensures.survives c.whole.ensures.survives) c.whole-2.ensures.survives).counts r.result c.in_err-blanks.field-0.0 r.ensures.1 (c.in_err-blanks.ensures.cause clean)
+    looks_then by3 (looks_past c.whole-3.ensures.looks r.result c.in_err-blanks.field-0.0 r.ensures.1 c.in_err-blanks.ensures.looks.cause)
 
-pub returns-in_err-records-clause-cause : goal.returns-in_err-records-clause-cause
-returns-in_err-records-clause-cause g c clean =
+pub returns-in_err-records-clause-looks : goal.returns-in_err-records-clause-looks
+returns-in_err-records-clause-looks g c =
+    let by2 = looks_then c.marks.ensures.looks c.whole.ensures.looks in
+    let by3 = looks_then by2 c.whole-2.ensures.looks in
+    let by4 = looks_then by3 c.whole-3.ensures.looks in
     let r = c.from_residual-in_err-records in
-    passed_had g.S.Store (state g.S.Store c.args.conn.now) (state g.S.Store c.whole-3.new.conn) (state g.S.Store c.whole-4.new.conn) (outlives_four c.marks.ensures.survives c.whole.ensures.survives c.whole-2.ensures.survives c.whole-3.ensures.survives).counts r.result c.in_err-records.field-0.0 r.ensures.1 (c.in_err-records.ensures.cause clean)
+    looks_then by4 (looks_past c.whole-4.ensures.looks r.result c.in_err-records.field-0.0 r.ensures.1 c.in_err-records.ensures.looks.cause)
 
-pub returns-in_err-groupings-clause-cause : goal.returns-in_err-groupings-clause-cause
-returns-in_err-groupings-clause-cause g c clean =
-    let by4 = outlives_four c.marks.ensures.survives c.whole.ensures.survives c.whole-2.ensures.survives c.whole-3.ensures.survives in
+pub returns-in_err-groupings-clause-looks : goal.returns-in_err-groupings-clause-looks
+returns-in_err-groupings-clause-looks g c =
+    let by2 = looks_then c.marks.ensures.looks c.whole.ensures.looks in
+    let by3 = looks_then by2 c.whole-2.ensures.looks in
+    let by4 = looks_then by3 c.whole-3.ensures.looks in
+    let by5 = looks_then by4 c.whole-4.ensures.looks in
     let r = c.from_residual-in_err-groupings in
-    passed_had g.S.Store (state g.S.Store c.args.conn.now) (state g.S.Store c.whole-4.new.conn) (state g.S.Store c.groupings.new.conn) (outlives by4 c.whole-4.ensures.survives).counts r.result c.in_err-groupings.field-0.0 r.ensures.1 (c.in_err-groupings.ensures.cause clean)
+    looks_then by5 (looks_past c.groupings.ensures.looks r.result c.in_err-groupings.field-0.0 r.ensures.1 c.in_err-groupings.ensures.looks.cause)
 
-pub returns-in_err-products-clause-cause : goal.returns-in_err-products-clause-cause
-returns-in_err-products-clause-cause g c clean =
-    let by4 = outlives_four c.marks.ensures.survives c.whole.ensures.survives c.whole-2.ensures.survives c.whole-3.ensures.survives in
+pub returns-in_err-products-clause-looks : goal.returns-in_err-products-clause-looks
+returns-in_err-products-clause-looks g c =
+    let by2 = looks_then c.marks.ensures.looks c.whole.ensures.looks in
+    let by3 = looks_then by2 c.whole-2.ensures.looks in
+    let by4 = looks_then by3 c.whole-3.ensures.looks in
+    let by5 = looks_then by4 c.whole-4.ensures.looks in
+    let by6 = looks_then by5 c.groupings.ensures.looks in
     let r = c.from_residual-in_err-products in
-    passed_had g.S.Store (state g.S.Store c.args.conn.now) (state g.S.Store c.groupings.new.conn) (state g.S.Store c.whole-5.new.conn) (outlives (outlives by4 c.whole-4.ensures.survives) c.groupings.ensures.survives).counts r.result c.in_err-products.field-0.0 r.ensures.1 (c.in_err-products.ensures.cause clean)
+    looks_then by6 (looks_past c.whole-5.ensures.looks r.result c.in_err-products.field-0.0 r.ensures.1 c.in_err-products.ensures.looks.cause)
 
-pub returns-in_err-lots-clause-cause : goal.returns-in_err-lots-clause-cause
-returns-in_err-lots-clause-cause g c clean =
-    let by4 = outlives_four c.marks.ensures.survives c.whole.ensures.survives c.whole-2.ensures.survives c.whole-3.ensures.survives in
+pub returns-in_err-lots-clause-looks : goal.returns-in_err-lots-clause-looks
+returns-in_err-lots-clause-looks g c =
+    let by2 = looks_then c.marks.ensures.looks c.whole.ensures.looks in
+    let by3 = looks_then by2 c.whole-2.ensures.looks in
+    let by4 = looks_then by3 c.whole-3.ensures.looks in
+    let by5 = looks_then by4 c.whole-4.ensures.looks in
+    let by6 = looks_then by5 c.groupings.ensures.looks in
+    let by7 = looks_then by6 c.whole-5.ensures.looks in
     let r = c.from_residual-in_err-lots in
-    passed_had g.S.Store (state g.S.Store c.args.conn.now) (state g.S.Store c.whole-5.new.conn) (state g.S.Store c.whole-6.new.conn) (outlives (outlives (outlives by4 c.whole-4.ensures.survives) c.groupings.ensures.survives) c.whole-5.ensures.survives).counts r.result c.in_err-lots.field-0.0 r.ensures.1 (c.in_err-lots.ensures.cause clean)
+    looks_then by7 (looks_past c.whole-6.ensures.looks r.result c.in_err-lots.field-0.0 r.ensures.1 c.in_err-lots.ensures.looks.cause)
 
-pub returns-in_err-batches-clause-cause : goal.returns-in_err-batches-clause-cause
-returns-in_err-batches-clause-cause g c clean =
-    let by4 = outlives_four c.marks.ensures.survives c.whole.ensures.survives c.whole-2.ensures.survives c.whole-3.ensures.survives in
-    let by8 = outlives by4 (outlives_four c.whole-4.ensures.survives c.groupings.ensures.survives c.whole-5.ensures.survives c.whole-6.ensures.survives) in
+pub returns-in_err-batches-clause-looks : goal.returns-in_err-batches-clause-looks
+returns-in_err-batches-clause-looks g c =
+    let by2 = looks_then c.marks.ensures.looks c.whole.ensures.looks in
+    let by3 = looks_then by2 c.whole-2.ensures.looks in
+    let by4 = looks_then by3 c.whole-3.ensures.looks in
+    let by5 = looks_then by4 c.whole-4.ensures.looks in
+    let by6 = looks_then by5 c.groupings.ensures.looks in
+    let by7 = looks_then by6 c.whole-5.ensures.looks in
+    let by8 = looks_then by7 c.whole-6.ensures.looks in
     let r = c.from_residual-in_err-batches in
-    passed_had g.S.Store (state g.S.Store c.args.conn.now) (state g.S.Store c.whole-6.new.conn) (state g.S.Store c.whole-7.new.conn) by8.counts r.result c.in_err-batches.field-0.0 r.ensures.1 (c.in_err-batches.ensures.cause clean)
+    looks_then by8 (looks_past c.whole-7.ensures.looks r.result c.in_err-batches.field-0.0 r.ensures.1 c.in_err-batches.ensures.looks.cause)
 
-pub returns-in_err-remakes-clause-cause : goal.returns-in_err-remakes-clause-cause
-returns-in_err-remakes-clause-cause g c clean =
-    let by4 = outlives_four c.marks.ensures.survives c.whole.ensures.survives c.whole-2.ensures.survives c.whole-3.ensures.survives in
-    let by8 = outlives by4 (outlives_four c.whole-4.ensures.survives c.groupings.ensures.survives c.whole-5.ensures.survives c.whole-6.ensures.survives) in
+pub returns-in_err-remakes-clause-looks : goal.returns-in_err-remakes-clause-looks
+returns-in_err-remakes-clause-looks g c =
+    let by2 = looks_then c.marks.ensures.looks c.whole.ensures.looks in
+    let by3 = looks_then by2 c.whole-2.ensures.looks in
+    let by4 = looks_then by3 c.whole-3.ensures.looks in
+    let by5 = looks_then by4 c.whole-4.ensures.looks in
+    let by6 = looks_then by5 c.groupings.ensures.looks in
+    let by7 = looks_then by6 c.whole-5.ensures.looks in
+    let by8 = looks_then by7 c.whole-6.ensures.looks in
+    let by9 = looks_then by8 c.whole-7.ensures.looks in
     let r = c.from_residual-in_err-remakes in
-    passed_had g.S.Store (state g.S.Store c.args.conn.now) (state g.S.Store c.whole-7.new.conn) (state g.S.Store c.whole-8.new.conn) (outlives by8 c.whole-7.ensures.survives).counts r.result c.in_err-remakes.field-0.0 r.ensures.1 (c.in_err-remakes.ensures.cause clean)
+    looks_then by9 (looks_past c.whole-8.ensures.looks r.result c.in_err-remakes.field-0.0 r.ensures.1 c.in_err-remakes.ensures.looks.cause)
+
+pub returns-clause-looks : goal.returns-clause-looks
+returns-clause-looks g c =
+    let by2 = looks_then c.marks.ensures.looks c.whole.ensures.looks in
+    let by3 = looks_then by2 c.whole-2.ensures.looks in
+    let by4 = looks_then by3 c.whole-3.ensures.looks in
+    let by5 = looks_then by4 c.whole-4.ensures.looks in
+    let by6 = looks_then by5 c.groupings.ensures.looks in
+    let by7 = looks_then by6 c.whole-5.ensures.looks in
+    let by8 = looks_then by7 c.whole-6.ensures.looks in
+    let by9 = looks_then by8 c.whole-7.ensures.looks in
+    let by10 = looks_then by9 c.whole-8.ensures.looks in
+    looks_well by10 _
