@@ -1,22 +1,18 @@
 //! Creates stores over SQLite, and opens existing ones.
-ghost use Rattle.std.specs.Prelude.{◌≡◌, ◌≢◌, ◌⊎◌, false, IfErr, IfOk, IsTrue, MatchResult, None};
+ghost use Rattle.std.specs.Prelude.{◌≡◌, ◌≢◌, ◌⊎◌, false, IfErr, IfOk, IsTrue, MatchResult};
 ghost use Rattle.sqlite.specs.Held.{state};
-ghost use Rattle.sqlite.specs.State.{HasCleanDisk, Survives};
-ghost use Rattle.job_facts.specs.Contents.{AreSound, Contents, no_contents};
+ghost use Rattle.sqlite.specs.State.{HasCleanDisk};
+ghost use Rattle.job_facts.specs.Contents.{no_contents};
 ghost use Rattle.job_facts.specs.Reopening.{LeavesOnly};
 ghost use Rattle.job_facts.specs.Store.{IsFound};
 ghost use Rattle.job_facts.specs.declared.store.StoreFault.{StoreFault};
-ghost use Rattle.image_laws.specs.Image.{image};
 ghost use Rattle.sql_base.specs.Columns.{no_schema};
-ghost use Rattle.sql_base.specs.Ends.{IsKept, IsLeft};
-ghost use Rattle.sql_tables.specs.declared.versions.Version.{Version};
-ghost use Rattle.table_reads.specs.Holding.{HoldsRows, HoldsSoundRows, IsOfVersion};
-ghost use Rattle.adoption.specs.Adopts.{Adopts};
+ghost use Rattle.sql_base.specs.Ends.{IsKept};
 ghost use Rattle.adoption.specs.Causes.{IsCaused};
-ghost use Rattle.adoption.specs.Unwritten.{LeavesOurs};
-ghost use Rattle.schema.specs.Begun.{LeavesNoOther, WasHeld};
-ghost use Rattle.schema.specs.Left.{IsRefusal, TakesAt};
-ghost use Rattle.schema.specs.Link.{Stands, link};
+ghost use Rattle.schema.specs.Begun.{LeavesNoOther};
+ghost use Rattle.schema.specs.Left.{TakesAt};
+ghost use Rattle.schema.specs.Link.{link};
+ghost use Rattle.schema.specs.Opening.{OpensExisting};
 ghost use Rattle.schema.specs.Stores.{connection, stands_for};
 
 use crate::faults::Counts;
@@ -120,55 +116,7 @@ impl<S: Alter> SqlStore<S> {
         mut conn: Connection<S>,
     ) -> Result<SqlStore<S>, (Connection<S>, OpenFault)>
         requires { conn.in_transaction ≡ false }
-        ensures taken { IfOk result (λ store. HasCleanDisk (state S.Store (connection store))
-            → (v : Version) × HoldsSoundRows v (state S.Store conn).now) }
-        ensures holds { IfOk result (λ store. HasCleanDisk (state S.Store (connection store))
-            → (v : Version) (c : Contents) → AreSound c
-            → HoldsRows v (image c) (state S.Store conn).now
-            → (stands_for S.Store store).holds c) }
-        ensures crash { IfOk result (λ store. HasCleanDisk (state S.Store (connection store))
-            → (v : Version) (c : Contents) (d : _) → AreSound c
-            → HoldsRows v (image c) (state S.Store conn).now
-            → (stands_for S.Store store).may_leave d → IsFound d c) }
-        ensures counts { IfOk result (λ store. ((stands_for S.Store store).failed ≡ 0)
-            × ((stands_for S.Store store).full ≡ 0)) }
-        ensures not_ours { IfErr result (λ e. HasCleanDisk (state S.Store e.0)
-            → e.1 ≡ OpenFault.NotOurs
-            → (v : Version) → ¬ IsOfVersion v (state S.Store conn).now) }
-        ensures damaged { IfErr result (λ e. HasCleanDisk (state S.Store e.0)
-            → e.1 ≡ OpenFault.Damaged
-            → ((v : Version) × IsOfVersion v (state S.Store conn).now)
-            × ((v : Version) → ¬ HoldsSoundRows v (state S.Store conn).now)) }
-        ensures kept { IfErr result (λ e. HasCleanDisk (state S.Store e.0)
-            → IsKept (state S.Store conn) (state S.Store e.0)) }
-        ensures idle { IfErr result (λ e. e.0.in_transaction ≡ false) }
-        ensures late { IfErr result (λ e. HasCleanDisk (state S.Store e.0) → (d : _)
-            → (link (state S.Store e.0) 0 0).may_leave d
-            → (link (state S.Store conn) 0 0).may_leave d
-            ⊎ WasHeld d (state S.Store conn).now) }
-        ensures unchanged { MatchResult result
-            (λ store. LeavesOurs (state S.Store conn) (state S.Store (connection store)))
-            (λ e. LeavesOurs (state S.Store conn) (state S.Store e.0)) }
-        ensures survives { MatchResult result (λ store. Survives (state S.Store conn)
-            (state S.Store (connection store)) (IsLeft Adopts (state S.Store conn)))
-            (λ e. Survives (state S.Store conn) (state S.Store e.0)
-            (IsLeft Adopts (state S.Store conn))) }
-        ensures open { IfOk result (λ store. HasCleanDisk (state S.Store (connection store))
-            → IsTrue (state S.Store (connection store)).is_open) }
-        ensures takes { IfOk result (λ store. HasCleanDisk (state S.Store (connection store))
-            → TakesAt (state S.Store conn).now.trees (stands_for S.Store store)) }
-        ensures refuses { IfErr result (λ e. HasCleanDisk (state S.Store e.0)
-            → IsTrue (state S.Store conn).is_open → IsRefusal e.1
-            → (state S.Store conn).now.schema ≢ no_schema
-            → Stands None (state S.Store conn).now.trees) }
-        ensures leaves { IfErr result (λ e. HasCleanDisk (state S.Store e.0)
-            → IsTrue (state S.Store conn).is_open
-            → (v : Version) (c : Contents) → AreSound c
-            → HoldsRows v (image c) (state S.Store conn).now
-            → LeavesOnly (link (state S.Store e.0) 0 0) c) }
-        ensures cause { IfErr result (λ e. HasCleanDisk (state S.Store e.0) → (own : StoreFault)
-            → e.1 ≡ OpenFault.Store own
-            → IsCaused S.Store (state S.Store conn) (state S.Store e.0) own) }
+        ensures { OpensExisting S.Store conn result }
     {
         image_laws::same_rows_same_contents();
         table_reads::laws::held_rows_are_one();
