@@ -1,5 +1,5 @@
 //! Reads a batch, its size and its counters.
-ghost use Rattle.std.specs.Prelude.{false, ◌≡◌};
+ghost use Rattle.std.specs.Prelude.{false, IsTrue, ◌<◌, ◌^◌, ◌≡◌, ◌↔◌};
 ghost use Rattle.sqlite.specs.Held.{state};
 ghost use Rattle.job_facts.specs.Accounts.{batch_totals};
 ghost use Rattle.job_facts.specs.Rows.{batch_has, batch_row_of, batch_size_of};
@@ -57,8 +57,15 @@ pub fn batch<S: Alter>(conn: &mut Connection<S>, name: &Name) -> Result<Option<B
     }))
 }
 
-// The maximum number of rows and of records in a `BatchSize`.
-const MOST: u64 = 0xffff_ffff;
+// The numbers of rows and of records in a `BatchSize` are below this limit.
+const SIZE_END: u64 = 1 << 32;
+
+// Returns `true` if a `BatchSize` can contain these numbers.
+fn fits(rows: u64, records: u64) -> bool
+    ensures { IsTrue result ↔ ((rows < 2 ^ 32) × (records < 2 ^ 32)) }
+{
+    rows < SIZE_END && records < SIZE_END
+}
 
 /// Returns the numbers of rows and records of the batch `name`.
 pub fn batch_size<S: Alter>(
@@ -76,7 +83,7 @@ pub fn batch_size<S: Alter>(
         return Ok(None);
     };
     let rows = grouping_count(conn, head.id)?;
-    if rows > MOST || head.totals.records > MOST {
+    if !fits(rows, head.totals.records) {
         return Err(Error::InvalidQuery);
     }
     Ok(Some(BatchSize {

@@ -5,7 +5,7 @@ ghost use Rattle.job_facts.specs.States.{any_overlaps, is_charged, lot_named, lo
 ghost use Rattle.row_reads.specs.Reads.{Looks};
 ghost use Rattle.store_reads.specs.ReadsContents.{ReadsContents};
 
-use crate::numbers::END;
+use crate::numbers::is_in_range;
 use job_facts::{Lot, lot_among};
 use sqlite::{Alter, Connection, Error};
 use store_data::Name;
@@ -53,7 +53,7 @@ pub fn is_charged<S: Alter>(conn: &mut Connection<S>, blank: u64) -> Result<bool
         (λ c answer. answer ≡ is_charged c.facts blank) }
     ensures looks { Looks (state S.Store conn.old) (state S.Store conn.new) }
 {
-    if blank >= END {
+    if !is_in_range(blank) {
         return Err(Error::InvalidQuery);
     }
     row_laws::blanks_by_serial();

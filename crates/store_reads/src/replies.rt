@@ -5,7 +5,7 @@ ghost use Rattle.job_facts.specs.Contents.{entry_of, mark_of, reply_of_entry};
 ghost use Rattle.row_reads.specs.Reads.{Looks};
 ghost use Rattle.store_reads.specs.ReadsContents.{ReadsContents};
 
-use crate::numbers::END;
+use crate::numbers::is_in_range;
 use job_facts::KeptReply;
 use sqlite::{Alter, Connection, Error};
 use store_data::Name;
@@ -21,7 +21,7 @@ pub fn kept<S: Alter>(
         (λ c answer. answer ≡ option_map reply_of_entry (entry_of c.kept client.now number)) }
     ensures looks { Looks (state S.Store conn.old) (state S.Store conn.new) }
 {
-    if number >= END {
+    if !is_in_range(number) {
         return Err(Error::InvalidQuery);
     }
     row_laws::replies_by_number();

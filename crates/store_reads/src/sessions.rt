@@ -11,7 +11,7 @@ ghost use Rattle.store_reads.specs.Sessions.{row_named};
 ghost use Rattle.store_reads.specs.ReadsContents.{ReadsContents};
 
 use crate::known::Known;
-use crate::numbers::END;
+use crate::numbers::is_in_range;
 use job_facts::SessionRow;
 use row_reads::{SessionAt, batch_name, record_at};
 use sqlite::{Alter, Connection, Error};
@@ -46,7 +46,7 @@ pub fn session<S: Alter>(
         (λ answer. IfSome answer (λ (row : SessionRowValue). IsCursor row.cursor)) }
     ensures looks { Looks (state S.Store conn.old) (state S.Store conn.new) }
 {
-    if session >= END {
+    if !is_in_range(session) {
         return Err(Error::InvalidQuery);
     }
     row_laws::sessions_by_number();

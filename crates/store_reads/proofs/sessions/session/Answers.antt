@@ -68,3 +68,6 @@ returns-in-Some-at-clause-value g c clean =
           c.in-Some-at.ensures.id c.in-Some-at.ensures.place
           ∙ sym (c.sessions_by_number.ensures.row d.facts c.args.session sound.facts),
     )
+
+pub session-requires-clause-id : goal.session-requires-clause-id
+session-requires-clause-id g c = c.is_in_range.ensures.0 c.if-not-is_in_range.false
