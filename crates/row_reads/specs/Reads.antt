@@ -1,11 +1,11 @@
 -- The results of reads, and their effects.
-use Rattle.std.specs.Prelude.{◌≡◌, ℕ, false, true, IfOk, IsTrue, List, Result}
+use Rattle.std.specs.Prelude.{ℕ, true, IfOk, IsTrue, List, Result}
 use Rattle.sqlite.specs.Held.{Held, state}
 use Rattle.sqlite.specs.Order.{Row}
-use Rattle.sqlite.specs.State.{HasCleanDisk, Shown, State, Survives}
+use Rattle.sqlite.specs.State.{HasCleanDisk, Shown, State}
 use Rattle.sqlite.specs.Store.{Ghosts}
 use Rattle.sqlite.specs.declared.error.Error.{Error}
-use Rattle.sql_base.specs.Ends.{IsKept}
+pub use Rattle.sql_base.specs.Unchanged.{Looks}
 use Rattle.table_rows.specs.Tables.{Tables}
 use Rattle.sql_rows.specs.Image.{IsImage}
 
@@ -21,8 +21,8 @@ Answers g old new sql params result P =
 abbrev pub ReadsRows : {T : Type 0} → State → State → Result T Error → (Tables → T → Type 0) → Type 0
 ReadsRows old new result P = HasCleanDisk new → IfOk result (λ answer. IsTrue old.is_open × ((t : Tables) → IsImage t old.now → P t answer))
 
--- Nothing is changed, no transaction is left open, and a crash leaves what it could leave before.
-pub record Looks (old new : State) : Type 0 where
-  pub kept : HasCleanDisk new → IsKept old new
-  pub idle : new.in_transaction ≡ false
-  pub survives : Survives old new (λ _. ⊥)
+-- The result has the property `P` for any rows that the database contains. Nothing is changed, and
+-- a crash leaves what it could leave before.
+pub record FindsRows {T : Type 0} (old new : State) (result : Result T Error) (P : Tables → T → Type 0) : Type 0 where
+  pub found : ReadsRows old new result P
+  pub looks : Looks old new

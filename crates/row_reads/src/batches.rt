@@ -7,7 +7,7 @@ ghost use Rattle.row_reads.specs.Decoding.{batch_at_in, head_in, totals_in};
 ghost use Rattle.row_reads.specs.Extremes.{IsGreatest};
 ghost use Rattle.row_reads.specs.Readable.{AreTotalsAnswer, FailsForMemory, IsHeadAnswer};
 ghost use Rattle.row_reads.specs.Readable.{IsBatchAnswer};
-ghost use Rattle.row_reads.specs.Reads.{Looks, ReadsRows};
+ghost use Rattle.row_reads.specs.Reads.{FindsRows};
 ghost use Rattle.row_reads.specs.RowValues.{AreCounts, IsBatchAt, IsHead, batch_at, head_of};
 ghost use Rattle.table_rows.specs.Keys.{is_batch, is_batch_for, is_batch_named, is_batch_with};
 ghost use Rattle.table_rows.specs.Tables.{PassesOnce, StoredBatch};
@@ -114,12 +114,11 @@ impl Answered for BatchAt {
 /// Returns the id of the batch with the name `name`.
 pub fn batch_id<S: Alter>(conn: &mut Connection<S>, name: &Name) -> Result<Option<u64>, Error>
     requires { conn.old.in_transaction ≡ false }
-    ensures found { ReadsRows (state S.Store conn.old) (state S.Store conn.new) result
+    ensures finds { FindsRows (state S.Store conn.old) (state S.Store conn.new) result
         (λ t found. PassesOnce (is_batch_named name.now) t.batches
         → found
         ≡ option_map (λ (b : StoredBatch). b.id) (find (is_batch_named name.now) t.batches)) }
     ensures ranged { IfOk result (λ found. IfSome found (λ id. id < 2 ^ 63)) }
-    ensures looks { Looks (state S.Store conn.old) (state S.Store conn.new) }
 {
     let sql = "SELECT id FROM batch WHERE name = ?1";
     one_of(conn, sql, &[ValueRef::Text(name.bytes())])
@@ -133,10 +132,9 @@ pub fn batch_id<S: Alter>(conn: &mut Connection<S>, name: &Name) -> Result<Optio
 pub fn batch_name<S: Alter>(conn: &mut Connection<S>, id: u64) -> Result<Option<Name>, Error>
     requires idle { conn.old.in_transaction ≡ false }
     requires id { id < 2 ^ 63 }
-    ensures found { ReadsRows (state S.Store conn.old) (state S.Store conn.new) result
+    ensures { FindsRows (state S.Store conn.old) (state S.Store conn.new) result
         (λ t found. PassesOnce (is_batch id) t.batches
         → found ≡ option_map (λ (b : StoredBatch). b.name) (find (is_batch id) t.batches)) }
-    ensures looks { Looks (state S.Store conn.old) (state S.Store conn.new) }
 {
     let sql = "SELECT id, name FROM batch WHERE ?1 <= id AND (id = ?1) = 1 ORDER BY id LIMIT 1";
     one_of(conn, sql, &[int(id)])
@@ -149,11 +147,10 @@ pub fn batch_by_name<S: Alter>(
     name: &Name,
 ) -> Result<Option<BatchAt>, Error>
     requires { conn.old.in_transaction ≡ false }
-    ensures found { ReadsRows (state S.Store conn.old) (state S.Store conn.new) result
+    ensures finds { FindsRows (state S.Store conn.old) (state S.Store conn.new) result
         (λ t found. PassesOnce (is_batch_named name.now) t.batches
         → found ≡ option_map batch_at (find (is_batch_named name.now) t.batches)) }
     ensures ranged { IfOk result (λ found. IfSome found IsBatchAt) }
-    ensures looks { Looks (state S.Store conn.old) (state S.Store conn.new) }
 {
     let sql = "SELECT id, product, closed FROM batch WHERE name = ?1";
     one_of(conn, sql, &[ValueRef::Text(name.bytes())])
@@ -165,11 +162,10 @@ pub fn batch_head<S: Alter>(
     name: &Name,
 ) -> Result<Option<BatchHead>, Error>
     requires { conn.old.in_transaction ≡ false }
-    ensures found { ReadsRows (state S.Store conn.old) (state S.Store conn.new) result
+    ensures finds { FindsRows (state S.Store conn.old) (state S.Store conn.new) result
         (λ t found. PassesOnce (is_batch_named name.now) t.batches
         → found ≡ option_map head_of (find (is_batch_named name.now) t.batches)) }
     ensures ranged { IfOk result (λ found. IfSome found IsHead) }
-    ensures looks { Looks (state S.Store conn.old) (state S.Store conn.new) }
 {
     let sql = "SELECT id, product, closed, waiting, running, failed, withdrawn, good, sessions, \
         spoiled FROM batch WHERE name = ?1";
@@ -179,9 +175,8 @@ pub fn batch_head<S: Alter>(
 /// Returns `true` if the batch `name` was imported from exactly the bytes `raw`.
 pub fn batch_has<S: Alter>(conn: &mut Connection<S>, name: &Name, raw: &[u8]) -> Result<bool, Error>
     requires { conn.old.in_transaction ≡ false }
-    ensures found { ReadsRows (state S.Store conn.old) (state S.Store conn.new) result
+    ensures { FindsRows (state S.Store conn.old) (state S.Store conn.new) result
         (λ t has. has ≡ list_any (is_batch_with name.now raw.now) t.batches) }
-    ensures looks { Looks (state S.Store conn.old) (state S.Store conn.new) }
 {
     let rows = rows_of(
         conn,
@@ -197,10 +192,9 @@ pub fn batches_of<S: Alter>(
     product: &Name,
 ) -> Result<Vec<BatchHead>, Error>
     requires { conn.old.in_transaction ≡ false }
-    ensures found { ReadsRows (state S.Store conn.old) (state S.Store conn.new) result
+    ensures { FindsRows (state S.Store conn.old) (state S.Store conn.new) result
         (λ t heads.
         IsPermutation (map head_of (filter (is_batch_for product.now) t.batches)) heads.items) }
-    ensures looks { Looks (state S.Store conn.old) (state S.Store conn.new) }
 {
     let sql = "SELECT id, product, closed, waiting, running, failed, withdrawn, good, sessions, \
         spoiled FROM batch WHERE product = ?1";
@@ -210,10 +204,9 @@ pub fn batches_of<S: Alter>(
 /// Returns the highest id of a batch, or 0 if no batch exists.
 pub fn last_batch<S: Alter>(conn: &mut Connection<S>) -> Result<u64, Error>
     requires { conn.old.in_transaction ≡ false }
-    ensures found { ReadsRows (state S.Store conn.old) (state S.Store conn.new) result
+    ensures finds { FindsRows (state S.Store conn.old) (state S.Store conn.new) result
         (λ t id. IsGreatest (map (λ (b : StoredBatch). b.id) t.batches) id) }
     ensures ranged { IfOk result (λ id. id < 2 ^ 63) }
-    ensures looks { Looks (state S.Store conn.old) (state S.Store conn.new) }
 {
     let rows = rows_of(conn, "SELECT id FROM batch ORDER BY id DESC LIMIT 1", &[])?;
     first_number(rows.as_slice())

@@ -2,7 +2,7 @@
 ghost use Rattle.std.specs.Prelude.{◌≡◌, ◌<◌, ◌^◌, false};
 ghost use Rattle.std.specs.List.{list_any};
 ghost use Rattle.sqlite.specs.Held.{state};
-ghost use Rattle.row_reads.specs.Reads.{Looks, ReadsRows};
+ghost use Rattle.row_reads.specs.Reads.{FindsRows};
 ghost use Rattle.table_rows.specs.Keys.{is_blank};
 
 use crate::values::has_rows;
@@ -13,9 +13,8 @@ use sqlite::{Alter, Connection, Error};
 pub fn is_charged<S: Alter>(conn: &mut Connection<S>, serial: u64) -> Result<bool, Error>
     requires idle { conn.old.in_transaction ≡ false }
     requires serial { serial < 2 ^ 63 }
-    ensures found { ReadsRows (state S.Store conn.old) (state S.Store conn.new) result
+    ensures { FindsRows (state S.Store conn.old) (state S.Store conn.new) result
         (λ t charged. charged ≡ list_any (is_blank serial) t.blanks) }
-    ensures looks { Looks (state S.Store conn.old) (state S.Store conn.new) }
 {
     let rows = rows_of(
         conn,

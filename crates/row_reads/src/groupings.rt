@@ -9,7 +9,7 @@ ghost use Rattle.row_reads.specs.CardDecoding.{is_of_segment, line_of};
 ghost use Rattle.row_reads.specs.Decoding.{blob_in};
 ghost use Rattle.row_reads.specs.Extremes.{AreSorted};
 ghost use Rattle.row_reads.specs.Readable.{IsAidBlob, IsCodedAnswer, IsGroupingAnswer};
-ghost use Rattle.row_reads.specs.Reads.{Looks, ReadsRows};
+ghost use Rattle.row_reads.specs.Reads.{FindsRows};
 ghost use Rattle.table_rows.specs.Keys.{is_grouping_at, is_grouping_of};
 
 use crate::answered::{Answered, all_of};
@@ -107,11 +107,10 @@ pub fn groupings_of<S: Alter>(
     requires idle { conn.old.in_transaction ≡ false }
     requires batch { batch < 2 ^ 63 }
     requires place { place < 2 ^ 63 }
-    ensures found { ReadsRows (state S.Store conn.old) (state S.Store conn.new) result
+    ensures finds { FindsRows (state S.Store conn.old) (state S.Store conn.new) result
         (λ t all. AreSorted line_of
         (map grouping_at (filter (is_grouping_at batch place) t.groupings)) all.items) }
     ensures ranged { IfOk result (λ all. All IsGroupingAt all.items) }
-    ensures looks { Looks (state S.Store conn.old) (state S.Store conn.new) }
 {
     let sql = "SELECT line, aid, rank, enc, tol FROM grouping2 WHERE batch = ?1 AND place = ?2 \
         ORDER BY line";
@@ -131,11 +130,10 @@ pub fn coded_of<S: Alter>(
     requires idle { conn.old.in_transaction ≡ false }
     requires batch { batch < 2 ^ 63 }
     requires place { place < 2 ^ 63 }
-    ensures found { ReadsRows (state S.Store conn.old) (state S.Store conn.new) result
+    ensures finds { FindsRows (state S.Store conn.old) (state S.Store conn.new) result
         (λ t all. AreSorted coded_line
         (map coded_at (filter (is_of_segment batch place aid.now rank) t.groupings)) all.items) }
     ensures ranged { IfOk result (λ all. All IsCodedAt all.items) }
-    ensures looks { Looks (state S.Store conn.old) (state S.Store conn.new) }
 {
     let sql = "SELECT line, coded FROM grouping2 WHERE batch = ?1 AND place = ?2 AND aid = ?3 \
         AND rank = ?4 ORDER BY line";
@@ -155,9 +153,8 @@ pub fn coded_of<S: Alter>(
 pub fn grouping_count<S: Alter>(conn: &mut Connection<S>, batch: u64) -> Result<u64, Error>
     requires idle { conn.old.in_transaction ≡ false }
     requires batch { batch < 2 ^ 63 }
-    ensures found { ReadsRows (state S.Store conn.old) (state S.Store conn.new) result
+    ensures { FindsRows (state S.Store conn.old) (state S.Store conn.new) result
         (λ t counted. counted ≡ length (filter (is_grouping_of batch) t.groupings)) }
-    ensures looks { Looks (state S.Store conn.old) (state S.Store conn.new) }
 {
     let rows = rows_of(
         conn,

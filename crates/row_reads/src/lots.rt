@@ -6,7 +6,7 @@ ghost use Rattle.job_facts.specs.States.{any_overlaps};
 ghost use Rattle.row_reads.specs.Decoding.{IsAny, lot_in, lot_row_in};
 ghost use Rattle.row_reads.specs.Extremes.{IsLastBegun};
 ghost use Rattle.row_reads.specs.Readable.{IsLotAnswer, IsLotRowAnswer};
-ghost use Rattle.row_reads.specs.Reads.{Looks, ReadsRows};
+ghost use Rattle.row_reads.specs.Reads.{FindsRows};
 ghost use Rattle.row_reads.specs.RowValues.{IsLotRow, lot_row_of};
 ghost use Rattle.table_rows.specs.Keys.{is_lot_for, is_lot_named};
 ghost use Rattle.table_rows.specs.Tables.{PassesOnce, StoredLot};
@@ -70,11 +70,10 @@ impl Answered for LotRow {
 /// Returns the lot with the name `name`.
 pub fn lot<S: Alter>(conn: &mut Connection<S>, name: &Name) -> Result<Option<LotRow>, Error>
     requires { conn.old.in_transaction ≡ false }
-    ensures found { ReadsRows (state S.Store conn.old) (state S.Store conn.new) result
+    ensures finds { FindsRows (state S.Store conn.old) (state S.Store conn.new) result
         (λ t found. PassesOnce (is_lot_named name.now) t.lots
         → found ≡ option_map lot_row_of (find (is_lot_named name.now) t.lots)) }
     ensures ranged { IfOk result (λ found. IfSome found IsLotRow) }
-    ensures looks { Looks (state S.Store conn.old) (state S.Store conn.new) }
 {
     let sql = "SELECT low_serial, amount, name, product, discarded FROM lot WHERE name = ?1";
     one_of(conn, sql, &[ValueRef::Text(name.bytes())])
@@ -83,9 +82,8 @@ pub fn lot<S: Alter>(conn: &mut Connection<S>, name: &Name) -> Result<Option<Lot
 /// Returns all lots, in any order.
 pub fn all_lots<S: Alter>(conn: &mut Connection<S>) -> Result<Vec<Lot>, Error>
     requires { conn.old.in_transaction ≡ false }
-    ensures found { ReadsRows (state S.Store conn.old) (state S.Store conn.new) result
+    ensures { FindsRows (state S.Store conn.old) (state S.Store conn.new) result
         (λ t lots. IsPermutation (map (λ (l : StoredLot). l.lot) t.lots) lots.items) }
-    ensures looks { Looks (state S.Store conn.old) (state S.Store conn.new) }
 {
     let sql = "SELECT low_serial, amount, name, product FROM lot";
     all_of(conn, sql, &[])
@@ -94,10 +92,9 @@ pub fn all_lots<S: Alter>(conn: &mut Connection<S>) -> Result<Vec<Lot>, Error>
 /// Returns the lots of the product `product`, in any order.
 pub fn lots_of<S: Alter>(conn: &mut Connection<S>, product: &Name) -> Result<Vec<LotRow>, Error>
     requires { conn.old.in_transaction ≡ false }
-    ensures found { ReadsRows (state S.Store conn.old) (state S.Store conn.new) result
+    ensures { FindsRows (state S.Store conn.old) (state S.Store conn.new) result
         (λ t lots.
         IsPermutation (map lot_row_of (filter (is_lot_for product.now) t.lots)) lots.items) }
-    ensures looks { Looks (state S.Store conn.old) (state S.Store conn.new) }
 {
     let sql = "SELECT low_serial, amount, name, product, discarded FROM lot WHERE product = ?1";
     all_of(conn, sql, &[ValueRef::Text(product.bytes())])
@@ -107,10 +104,9 @@ pub fn lots_of<S: Alter>(conn: &mut Connection<S>, product: &Name) -> Result<Vec
 /// is higher. SQLite finds it with the index on `low_serial`.
 pub fn last_lot<S: Alter>(conn: &mut Connection<S>, blank: u64) -> Result<Option<Lot>, Error>
     requires { conn.old.in_transaction ≡ false }
-    ensures found { ReadsRows (state S.Store conn.old) (state S.Store conn.new) result
+    ensures { FindsRows (state S.Store conn.old) (state S.Store conn.new) result
         (λ t found. IsLastBegun (min blank MOST_SERIAL) (map (λ (l : StoredLot). l.lot) t.lots)
         found) }
-    ensures looks { Looks (state S.Store conn.old) (state S.Store conn.new) }
 {
     let serial = blank.min(MOST_SERIAL);
     let sql = "SELECT low_serial, amount, name, product FROM lot WHERE low_serial <= ?1 \
@@ -121,9 +117,8 @@ pub fn last_lot<S: Alter>(conn: &mut Connection<S>, blank: u64) -> Result<Option
 /// Returns `true` if a lot contains one of the `count` serials that start with `first`.
 pub fn overlaps<S: Alter>(conn: &mut Connection<S>, first: u64, count: u32) -> Result<bool, Error>
     requires { conn.old.in_transaction ≡ false }
-    ensures found { ReadsRows (state S.Store conn.old) (state S.Store conn.new) result
+    ensures { FindsRows (state S.Store conn.old) (state S.Store conn.new) result
         (λ t found. found ≡ any_overlaps (map (λ (l : StoredLot). l.lot) t.lots) first count) }
-    ensures looks { Looks (state S.Store conn.old) (state S.Store conn.new) }
 {
     let lots = all_lots(conn)?;
     Ok(any_overlaps(lots.as_slice(), first, count))
@@ -132,9 +127,8 @@ pub fn overlaps<S: Alter>(conn: &mut Connection<S>, first: u64, count: u32) -> R
 /// Returns the number of lots.
 pub fn lot_count<S: Alter>(conn: &mut Connection<S>) -> Result<u64, Error>
     requires { conn.old.in_transaction ≡ false }
-    ensures found { ReadsRows (state S.Store conn.old) (state S.Store conn.new) result
+    ensures { FindsRows (state S.Store conn.old) (state S.Store conn.new) result
         (λ t count. count ≡ length t.lots) }
-    ensures looks { Looks (state S.Store conn.old) (state S.Store conn.new) }
 {
     let rows = rows_of(conn, "SELECT name FROM lot", &[])?;
     Ok(count(rows.as_slice()))

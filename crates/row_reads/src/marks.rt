@@ -3,7 +3,7 @@ ghost use Rattle.std.specs.Prelude.{◌≡◌, ◌<◌, ◌^◌, false, map, IfO
 ghost use Rattle.sqlite.specs.Held.{state};
 ghost use Rattle.job_facts.specs.Contents.{Mark, mark_of};
 ghost use Rattle.job_facts.specs.Sound.{AreNamedOnce};
-ghost use Rattle.row_reads.specs.Reads.{Looks, ReadsRows};
+ghost use Rattle.row_reads.specs.Reads.{FindsRows};
 
 use crate::values::first_number;
 use sql_base::rows_of;
@@ -14,11 +14,10 @@ use store_data::Name;
 /// Returns the release mark of `client`, or 0 if it has released nothing.
 pub fn mark<S: Alter>(conn: &mut Connection<S>, client: &Name) -> Result<u64, Error>
     requires { conn.old.in_transaction ≡ false }
-    ensures found { ReadsRows (state S.Store conn.old) (state S.Store conn.new) result
+    ensures finds { FindsRows (state S.Store conn.old) (state S.Store conn.new) result
         (λ t upto. AreNamedOnce (map (λ (m : Mark). m.client) t.marks)
         → upto ≡ mark_of t.marks client.now) }
     ensures ranged { IfOk result (λ upto. upto < 2 ^ 63) }
-    ensures looks { Looks (state S.Store conn.old) (state S.Store conn.new) }
 {
     let rows = rows_of(
         conn,

@@ -7,7 +7,7 @@ ghost use Rattle.job_facts.specs.Sound.{AreNamedOnce};
 ghost use Rattle.job_facts.specs.States.{product_named};
 ghost use Rattle.row_reads.specs.Decoding.{product_in};
 ghost use Rattle.row_reads.specs.Readable.{IsProductAnswer};
-ghost use Rattle.row_reads.specs.Reads.{Looks, ReadsRows};
+ghost use Rattle.row_reads.specs.Reads.{FindsRows};
 
 use crate::answered::{Answered, one_of};
 use crate::values::{count, flag_at, name_at, within_at};
@@ -36,11 +36,10 @@ impl Answered for Product {
 /// Returns the product with the name `code`.
 pub fn product<S: Alter>(conn: &mut Connection<S>, code: &Name) -> Result<Option<Product>, Error>
     requires { conn.old.in_transaction ≡ false }
-    ensures found { ReadsRows (state S.Store conn.old) (state S.Store conn.new) result
+    ensures finds { FindsRows (state S.Store conn.old) (state S.Store conn.new) result
         (λ t found. AreNamedOnce (map (λ (p : ProductValue). p.code) t.products)
         → found ≡ product_named t.products code.now) }
     ensures ranged { IfOk result (λ found. IfSome found IsProduct) }
-    ensures looks { Looks (state S.Store conn.old) (state S.Store conn.new) }
 {
     let sql = "SELECT name, max, low, checked FROM product WHERE name = ?1";
     one_of(conn, sql, &[ValueRef::Text(code.bytes())])
@@ -49,9 +48,8 @@ pub fn product<S: Alter>(conn: &mut Connection<S>, code: &Name) -> Result<Option
 /// Returns the number of products.
 pub fn product_count<S: Alter>(conn: &mut Connection<S>) -> Result<u64, Error>
     requires { conn.old.in_transaction ≡ false }
-    ensures found { ReadsRows (state S.Store conn.old) (state S.Store conn.new) result
+    ensures { FindsRows (state S.Store conn.old) (state S.Store conn.new) result
         (λ t count. count ≡ length t.products) }
-    ensures looks { Looks (state S.Store conn.old) (state S.Store conn.new) }
 {
     let rows = rows_of(conn, "SELECT name FROM product", &[])?;
     Ok(count(rows.as_slice()))

@@ -5,7 +5,7 @@ ghost use Rattle.sqlite.specs.Held.{state};
 ghost use Rattle.row_reads.specs.CardDecoding.{IsRecordAt, place_of, record_at, record_in};
 ghost use Rattle.row_reads.specs.Extremes.{AreSorted, IsLeastBy};
 ghost use Rattle.row_reads.specs.Readable.{IsRecordAnswer};
-ghost use Rattle.row_reads.specs.Reads.{Looks, ReadsRows};
+ghost use Rattle.row_reads.specs.Reads.{FindsRows};
 ghost use Rattle.table_rows.specs.Keys.{is_record_at, is_record_named, is_record_of, is_waiting_of};
 ghost use Rattle.table_rows.specs.Tables.{PassesOnce};
 
@@ -58,11 +58,10 @@ pub fn record_named<S: Alter>(
 ) -> Result<Option<RecordAt>, Error>
     requires idle { conn.old.in_transaction ≡ false }
     requires batch { batch < 2 ^ 63 }
-    ensures found { ReadsRows (state S.Store conn.old) (state S.Store conn.new) result
+    ensures finds { FindsRows (state S.Store conn.old) (state S.Store conn.new) result
         (λ t found. PassesOnce (is_record_named batch name.now) t.records
         → found ≡ option_map record_at (find (is_record_named batch name.now) t.records)) }
     ensures ranged { IfOk result (λ found. IfSome found IsRecordAt) }
-    ensures looks { Looks (state S.Store conn.old) (state S.Store conn.new) }
 {
     let sql =
         "SELECT place, name, state, spoiled, remakes FROM record WHERE batch = ?1 AND name = ?2";
@@ -78,11 +77,10 @@ pub fn record_at<S: Alter>(
     requires idle { conn.old.in_transaction ≡ false }
     requires batch { batch < 2 ^ 63 }
     requires place { place < 2 ^ 63 }
-    ensures found { ReadsRows (state S.Store conn.old) (state S.Store conn.new) result
+    ensures finds { FindsRows (state S.Store conn.old) (state S.Store conn.new) result
         (λ t found. PassesOnce (is_record_at batch place) t.records
         → found ≡ option_map record_at (find (is_record_at batch place) t.records)) }
     ensures ranged { IfOk result (λ found. IfSome found IsRecordAt) }
-    ensures looks { Looks (state S.Store conn.old) (state S.Store conn.new) }
 {
     let sql =
         "SELECT place, name, state, spoiled, remakes FROM record WHERE batch = ?1 AND place = ?2";
@@ -93,11 +91,10 @@ pub fn record_at<S: Alter>(
 pub fn records_of<S: Alter>(conn: &mut Connection<S>, batch: u64) -> Result<Vec<RecordAt>, Error>
     requires idle { conn.old.in_transaction ≡ false }
     requires batch { batch < 2 ^ 63 }
-    ensures found { ReadsRows (state S.Store conn.old) (state S.Store conn.new) result
+    ensures finds { FindsRows (state S.Store conn.old) (state S.Store conn.new) result
         (λ t all.
         AreSorted place_of (map record_at (filter (is_record_of batch) t.records)) all.items) }
     ensures ranged { IfOk result (λ all. All IsRecordAt all.items) }
-    ensures looks { Looks (state S.Store conn.old) (state S.Store conn.new) }
 {
     let sql =
         "SELECT place, name, state, spoiled, remakes FROM record WHERE batch = ?1 ORDER BY place";
@@ -112,11 +109,10 @@ pub fn first_waiting<S: Alter>(
 ) -> Result<Option<RecordAt>, Error>
     requires idle { conn.old.in_transaction ≡ false }
     requires batch { batch < 2 ^ 63 }
-    ensures found { ReadsRows (state S.Store conn.old) (state S.Store conn.new) result
+    ensures finds { FindsRows (state S.Store conn.old) (state S.Store conn.new) result
         (λ t found.
         IsLeastBy place_of (map record_at (filter (is_waiting_of batch) t.records)) found) }
     ensures ranged { IfOk result (λ found. IfSome found IsRecordAt) }
-    ensures looks { Looks (state S.Store conn.old) (state S.Store conn.new) }
 {
     let sql = "SELECT place, name, state, spoiled, remakes FROM record WHERE batch = ?1 \
         AND state = 0 ORDER BY place LIMIT 1";

@@ -5,7 +5,7 @@ ghost use Rattle.job_facts.specs.Contents.{entry_of, reply_of_entry};
 ghost use Rattle.row_reads.specs.Counts.{shown_count};
 ghost use Rattle.row_reads.specs.Decoding.{IsAny, first_number, reply_in};
 ghost use Rattle.row_reads.specs.Readable.{IsReplyAnswer};
-ghost use Rattle.row_reads.specs.Reads.{Looks, ReadsRows};
+ghost use Rattle.row_reads.specs.Reads.{FindsRows};
 ghost use Rattle.table_rows.specs.Keys.{is_reply_to};
 ghost use Rattle.table_rows.specs.Tables.{PassesOnce};
 
@@ -40,10 +40,9 @@ pub fn kept<S: Alter>(
 ) -> Result<Option<KeptReply>, Error>
     requires idle { conn.old.in_transaction ≡ false }
     requires number { number < 2 ^ 63 }
-    ensures found { ReadsRows (state S.Store conn.old) (state S.Store conn.new) result
+    ensures { FindsRows (state S.Store conn.old) (state S.Store conn.new) result
         (λ t found. PassesOnce (is_reply_to client.now number) t.replies
         → found ≡ option_map reply_of_entry (entry_of t.replies client.now number)) }
-    ensures looks { Looks (state S.Store conn.old) (state S.Store conn.new) }
 {
     let sql = "SELECT ask, status, body FROM reply WHERE client = ?1 AND number = ?2";
     one_of(conn, sql, &[ValueRef::Text(client.bytes()), int(number)])
@@ -64,9 +63,8 @@ fn whole_count(rows: &[Row]) -> Result<u64, Error>
 /// Returns the number of kept replies.
 pub fn reply_count<S: Alter>(conn: &mut Connection<S>) -> Result<u64, Error>
     requires { conn.old.in_transaction ≡ false }
-    ensures found { ReadsRows (state S.Store conn.old) (state S.Store conn.new) result
+    ensures { FindsRows (state S.Store conn.old) (state S.Store conn.new) result
         (λ t count. count ≡ length t.replies) }
-    ensures looks { Looks (state S.Store conn.old) (state S.Store conn.new) }
 {
     let rows = rows_of(conn, "SELECT count(*) FROM reply", &[])?;
     whole_count(rows.as_slice())

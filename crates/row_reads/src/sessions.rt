@@ -8,7 +8,7 @@ ghost use Rattle.row_reads.specs.CardDecoding.{good_in, session_at, session_in};
 ghost use Rattle.row_reads.specs.Extremes.{IsGreatest};
 ghost use Rattle.row_reads.specs.Readable.{FailsForMemory, IsCursorAnswer, IsGoodAnswer};
 ghost use Rattle.row_reads.specs.Readable.{IsSessionAnswer};
-ghost use Rattle.row_reads.specs.Reads.{Looks, ReadsRows};
+ghost use Rattle.row_reads.specs.Reads.{FindsRows};
 ghost use Rattle.table_rows.specs.Keys.{is_good_of, is_running_on, is_session};
 ghost use Rattle.table_rows.specs.Tables.{PassesOnce, StoredSession};
 
@@ -83,11 +83,10 @@ impl Answered for SessionAt {
 pub fn session<S: Alter>(conn: &mut Connection<S>, id: u64) -> Result<Option<SessionAt>, Error>
     requires idle { conn.old.in_transaction ≡ false }
     requires id { id < 2 ^ 63 }
-    ensures found { ReadsRows (state S.Store conn.old) (state S.Store conn.new) result
+    ensures finds { FindsRows (state S.Store conn.old) (state S.Store conn.new) result
         (λ t found. PassesOnce (is_session id) t.sessions
         → found ≡ option_map session_at (find (is_session id) t.sessions)) }
     ensures ranged { IfOk result (λ found. IfSome found IsSessionAt) }
-    ensures looks { Looks (state S.Store conn.old) (state S.Store conn.new) }
 {
     let sql =
         "SELECT machine, batch, place, state, words, app, segment, at_offset, block FROM session \
@@ -101,12 +100,11 @@ pub fn running_session<S: Alter>(
     machine: &Name,
 ) -> Result<Option<u64>, Error>
     requires { conn.old.in_transaction ≡ false }
-    ensures found { ReadsRows (state S.Store conn.old) (state S.Store conn.new) result
+    ensures finds { FindsRows (state S.Store conn.old) (state S.Store conn.new) result
         (λ t found. PassesOnce (is_running_on machine.now) t.sessions
         → found ≡ option_map (λ (s : StoredSession). s.id)
         (find (is_running_on machine.now) t.sessions)) }
     ensures ranged { IfOk result (λ found. IfSome found (λ id. id < 2 ^ 63)) }
-    ensures looks { Looks (state S.Store conn.old) (state S.Store conn.new) }
 {
     let sql = "SELECT id FROM session WHERE machine = ?1 AND state = 0";
     one_of(conn, sql, &[ValueRef::Text(machine.bytes())])
@@ -115,10 +113,9 @@ pub fn running_session<S: Alter>(
 /// Returns the highest id of a session, or 0 if no session exists.
 pub fn last_session<S: Alter>(conn: &mut Connection<S>) -> Result<u64, Error>
     requires { conn.old.in_transaction ≡ false }
-    ensures found { ReadsRows (state S.Store conn.old) (state S.Store conn.new) result
+    ensures finds { FindsRows (state S.Store conn.old) (state S.Store conn.new) result
         (λ t id. IsGreatest (map (λ (s : StoredSession). s.id) t.sessions) id) }
     ensures ranged { IfOk result (λ id. id < 2 ^ 63) }
-    ensures looks { Looks (state S.Store conn.old) (state S.Store conn.new) }
 {
     let rows = rows_of(conn, "SELECT id FROM session ORDER BY id DESC LIMIT 1", &[])?;
     first_number(rows.as_slice())
@@ -142,10 +139,9 @@ impl Answered for GoodCard {
 pub fn good_sessions<S: Alter>(conn: &mut Connection<S>, batch: u64) -> Result<Vec<GoodCard>, Error>
     requires idle { conn.old.in_transaction ≡ false }
     requires batch { batch < 2 ^ 63 }
-    ensures found { ReadsRows (state S.Store conn.old) (state S.Store conn.new) result
+    ensures finds { FindsRows (state S.Store conn.old) (state S.Store conn.new) result
         (λ t all. IsPermutation (map good_at (filter (is_good_of batch) t.sessions)) all.items) }
     ensures ranged { IfOk result (λ all. All IsGoodCard all.items) }
-    ensures looks { Looks (state S.Store conn.old) (state S.Store conn.new) }
 {
     let sql = "SELECT place, serial FROM session WHERE batch = ?1 AND state = 1";
     all_of(conn, sql, &[int(batch)])

@@ -4,9 +4,8 @@ ghost use Rattle.sqlite.specs.Held.{state};
 ghost use Rattle.job_facts.specs.Accounts.{batch_totals};
 ghost use Rattle.job_facts.specs.Rows.{batch_has, batch_row_of, batch_size_of};
 ghost use Rattle.job_facts.specs.States.{is_batch_finished};
-ghost use Rattle.row_reads.specs.Reads.{Looks};
 ghost use Rattle.store_reads.specs.Heads.{is_over, totals_in};
-ghost use Rattle.store_reads.specs.ReadsContents.{ReadsContents};
+ghost use Rattle.store_reads.specs.ReadsContents.{FindsContents};
 
 use job_facts::{BatchRow, BatchSize, BatchTotals};
 use row_reads::{BatchHead, batch_by_name, batch_head, grouping_count};
@@ -44,9 +43,8 @@ fn is_over(totals: BatchTotals) -> bool
 /// Returns the batch with the name `name`.
 pub fn batch<S: Alter>(conn: &mut Connection<S>, name: &Name) -> Result<Option<BatchRow>, Error>
     requires { conn.old.in_transaction ≡ false }
-    ensures value { ReadsContents (state S.Store conn.old) (state S.Store conn.new) result
+    ensures { FindsContents (state S.Store conn.old) (state S.Store conn.new) result
         (λ c answer. answer ≡ batch_row_of c.facts name.now) }
-    ensures looks { Looks (state S.Store conn.old) (state S.Store conn.new) }
 {
     row_laws::batches_by_name();
     row_laws::batches_by_rows();
@@ -73,9 +71,8 @@ pub fn batch_size<S: Alter>(
     name: &Name,
 ) -> Result<Option<BatchSize>, Error>
     requires { conn.old.in_transaction ≡ false }
-    ensures value { ReadsContents (state S.Store conn.old) (state S.Store conn.new) result
+    ensures { FindsContents (state S.Store conn.old) (state S.Store conn.new) result
         (λ c answer. answer ≡ batch_size_of c.facts name.now) }
-    ensures looks { Looks (state S.Store conn.old) (state S.Store conn.new) }
 {
     row_laws::batches_by_name();
     row_laws::batches_by_rows();
@@ -95,9 +92,8 @@ pub fn batch_size<S: Alter>(
 /// Returns `true` if the batch `name` was imported from exactly the bytes `raw`.
 pub fn batch_has<S: Alter>(conn: &mut Connection<S>, name: &Name, raw: &[u8]) -> Result<bool, Error>
     requires { conn.old.in_transaction ≡ false }
-    ensures value { ReadsContents (state S.Store conn.old) (state S.Store conn.new) result
+    ensures { FindsContents (state S.Store conn.old) (state S.Store conn.new) result
         (λ c answer. answer ≡ batch_has c.facts name.now raw.now) }
-    ensures looks { Looks (state S.Store conn.old) (state S.Store conn.new) }
 {
     row_laws::batches_by_rows();
     row_reads::batch_has(conn, name, raw)
@@ -106,9 +102,8 @@ pub fn batch_has<S: Alter>(conn: &mut Connection<S>, name: &Name, raw: &[u8]) ->
 /// Returns `true` if every record of the batch `batch` is good or withdrawn.
 pub fn is_finished<S: Alter>(conn: &mut Connection<S>, batch: &Name) -> Result<bool, Error>
     requires { conn.old.in_transaction ≡ false }
-    ensures value { ReadsContents (state S.Store conn.old) (state S.Store conn.new) result
+    ensures { FindsContents (state S.Store conn.old) (state S.Store conn.new) result
         (λ c answer. answer ≡ is_batch_finished c.facts batch.now) }
-    ensures looks { Looks (state S.Store conn.old) (state S.Store conn.new) }
 {
     row_laws::totals_by_rows();
     let totals = batch_totals(conn, batch)?;
@@ -118,9 +113,8 @@ pub fn is_finished<S: Alter>(conn: &mut Connection<S>, batch: &Name) -> Result<b
 /// Returns the counters of the batch `batch`, which are all 0 if the batch doesn't exist.
 pub fn batch_totals<S: Alter>(conn: &mut Connection<S>, batch: &Name) -> Result<BatchTotals, Error>
     requires { conn.old.in_transaction ≡ false }
-    ensures value { ReadsContents (state S.Store conn.old) (state S.Store conn.new) result
+    ensures { FindsContents (state S.Store conn.old) (state S.Store conn.new) result
         (λ c answer. answer ≡ batch_totals c.facts batch.now) }
-    ensures looks { Looks (state S.Store conn.old) (state S.Store conn.new) }
 {
     row_laws::batches_by_name();
     row_laws::totals_by_rows();

@@ -10,7 +10,7 @@ ghost use Rattle.table_rows.specs.declared.writing.Writing.TheVariants.{AddsBatc
 ghost use Rattle.row_reads.specs.Reads.{Looks};
 ghost use Rattle.store_reads.specs.Heads.{counters_at, counters_of, place_at};
 ghost use Rattle.store_reads.specs.Known.{Knows};
-ghost use Rattle.store_reads.specs.ReadsContents.{GivesContents, ReadsContents};
+ghost use Rattle.store_reads.specs.ReadsContents.{FindsContents, GivesContents};
 
 use crate::known::{BatchCounters, Known};
 use crate::sessions::session;
@@ -138,9 +138,8 @@ fn discard_writing<'a, S: Alter>(
     lot: &Name,
 ) -> Result<Writing<'a>, Error>
     requires { conn.old.in_transaction ≡ false }
-    ensures value { ReadsContents (state S.Store conn.old) (state S.Store conn.new) result
+    ensures { FindsContents (state S.Store conn.old) (state S.Store conn.new) result
         (λ c w. IsWritingOf c.facts (Discards blank lot.now) w) }
-    ensures looks { Looks (state S.Store conn.old) (state S.Store conn.new) }
 {
     row_laws::lots_by_name();
     let Some(row) = row_reads::lot(conn, lot)? else {

@@ -2,7 +2,7 @@
 ghost use Rattle.std.specs.Prelude.{IfOk, false, length, ◌<◌, ◌^◌, ◌≡◌};
 ghost use Rattle.sqlite.specs.Held.{state};
 ghost use Rattle.row_reads.specs.Reads.{Looks};
-ghost use Rattle.store_reads.specs.ReadsContents.{ReadsContents};
+ghost use Rattle.store_reads.specs.ReadsContents.{FindsContents, ReadsContents};
 
 use row_reads::{last_batch, last_session};
 use sqlite::{Alter, Connection, Error};
@@ -10,9 +10,8 @@ use sqlite::{Alter, Connection, Error};
 /// Returns the number of products.
 pub fn product_count<S: Alter>(conn: &mut Connection<S>) -> Result<u64, Error>
     requires { conn.old.in_transaction ≡ false }
-    ensures value { ReadsContents (state S.Store conn.old) (state S.Store conn.new) result
+    ensures { FindsContents (state S.Store conn.old) (state S.Store conn.new) result
         (λ c answer. answer ≡ length c.facts.products) }
-    ensures looks { Looks (state S.Store conn.old) (state S.Store conn.new) }
 {
     row_reads::product_count(conn)
 }
@@ -20,9 +19,8 @@ pub fn product_count<S: Alter>(conn: &mut Connection<S>) -> Result<u64, Error>
 /// Returns the number of lots.
 pub fn lot_count<S: Alter>(conn: &mut Connection<S>) -> Result<u64, Error>
     requires { conn.old.in_transaction ≡ false }
-    ensures value { ReadsContents (state S.Store conn.old) (state S.Store conn.new) result
+    ensures { FindsContents (state S.Store conn.old) (state S.Store conn.new) result
         (λ c answer. answer ≡ length c.facts.lots) }
-    ensures looks { Looks (state S.Store conn.old) (state S.Store conn.new) }
 {
     row_laws::numbers_of_rows();
     row_reads::lot_count(conn)
@@ -31,9 +29,8 @@ pub fn lot_count<S: Alter>(conn: &mut Connection<S>) -> Result<u64, Error>
 /// Returns the number of batches.
 pub fn batch_count<S: Alter>(conn: &mut Connection<S>) -> Result<u64, Error>
     requires { conn.old.in_transaction ≡ false }
-    ensures value { ReadsContents (state S.Store conn.old) (state S.Store conn.new) result
+    ensures { FindsContents (state S.Store conn.old) (state S.Store conn.new) result
         (λ c answer. answer ≡ length c.facts.batches) }
-    ensures looks { Looks (state S.Store conn.old) (state S.Store conn.new) }
 {
     row_laws::numbers_of_rows();
     last_batch(conn)

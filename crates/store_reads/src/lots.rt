@@ -2,8 +2,7 @@
 ghost use Rattle.std.specs.Prelude.{false, ◌≡◌};
 ghost use Rattle.sqlite.specs.Held.{state};
 ghost use Rattle.job_facts.specs.States.{any_overlaps, is_charged, lot_named, lot_of};
-ghost use Rattle.row_reads.specs.Reads.{Looks};
-ghost use Rattle.store_reads.specs.ReadsContents.{ReadsContents};
+ghost use Rattle.store_reads.specs.ReadsContents.{FindsContents};
 
 use crate::numbers::is_in_range;
 use job_facts::{Lot, lot_among};
@@ -13,9 +12,8 @@ use store_data::Name;
 /// Returns the lot with the name `name`.
 pub fn lot<S: Alter>(conn: &mut Connection<S>, name: &Name) -> Result<Option<Lot>, Error>
     requires { conn.old.in_transaction ≡ false }
-    ensures value { ReadsContents (state S.Store conn.old) (state S.Store conn.new) result
+    ensures { FindsContents (state S.Store conn.old) (state S.Store conn.new) result
         (λ c answer. answer ≡ lot_named c.facts.lots name.now) }
-    ensures looks { Looks (state S.Store conn.old) (state S.Store conn.new) }
 {
     row_laws::lots_by_name();
     let found = row_reads::lot(conn, name)?;
@@ -26,9 +24,8 @@ pub fn lot<S: Alter>(conn: &mut Connection<S>, name: &Name) -> Result<Option<Lot
 /// starts at or before `blank` can contain it.
 pub fn lot_of<S: Alter>(conn: &mut Connection<S>, blank: u64) -> Result<Option<Lot>, Error>
     requires { conn.old.in_transaction ≡ false }
-    ensures value { ReadsContents (state S.Store conn.old) (state S.Store conn.new) result
+    ensures { FindsContents (state S.Store conn.old) (state S.Store conn.new) result
         (λ c answer. answer ≡ lot_of c.facts.lots blank) }
-    ensures looks { Looks (state S.Store conn.old) (state S.Store conn.new) }
 {
     row_laws::lots_by_name();
     let last = row_reads::last_lot(conn, blank)?;
@@ -38,9 +35,8 @@ pub fn lot_of<S: Alter>(conn: &mut Connection<S>, blank: u64) -> Result<Option<L
 /// Returns `true` if a lot contains one of the `count` serials that start with `first`.
 pub fn overlaps<S: Alter>(conn: &mut Connection<S>, first: u64, count: u32) -> Result<bool, Error>
     requires { conn.old.in_transaction ≡ false }
-    ensures value { ReadsContents (state S.Store conn.old) (state S.Store conn.new) result
+    ensures { FindsContents (state S.Store conn.old) (state S.Store conn.new) result
         (λ c answer. answer ≡ any_overlaps c.facts.lots first count) }
-    ensures looks { Looks (state S.Store conn.old) (state S.Store conn.new) }
 {
     row_laws::lots_by_name();
     row_reads::overlaps(conn, first, count)
@@ -49,9 +45,8 @@ pub fn overlaps<S: Alter>(conn: &mut Connection<S>, first: u64, count: u32) -> R
 /// Returns `true` if `blank` is charged by an `open` or a `discard`.
 pub fn is_charged<S: Alter>(conn: &mut Connection<S>, blank: u64) -> Result<bool, Error>
     requires { conn.old.in_transaction ≡ false }
-    ensures value { ReadsContents (state S.Store conn.old) (state S.Store conn.new) result
+    ensures { FindsContents (state S.Store conn.old) (state S.Store conn.new) result
         (λ c answer. answer ≡ is_charged c.facts blank) }
-    ensures looks { Looks (state S.Store conn.old) (state S.Store conn.new) }
 {
     if !is_in_range(blank) {
         return Err(Error::InvalidQuery);

@@ -5,7 +5,7 @@ ghost use Rattle.sqlite.specs.State.{HasCleanDisk};
 ghost use Rattle.job_facts.specs.States.{first_waiting, record_state_of};
 ghost use Rattle.row_reads.specs.Reads.{Looks, ReadsRows};
 ghost use Rattle.store_reads.specs.Known.{Knows};
-ghost use Rattle.store_reads.specs.ReadsContents.{ReadsContents};
+ghost use Rattle.store_reads.specs.ReadsContents.{FindsContents, ReadsContents};
 ghost use Rattle.store_reads.specs.Waiting.{IsFirstWaiting};
 
 use crate::known::Known;
@@ -22,9 +22,8 @@ pub fn record_state<S: Alter>(
     rec: &Name,
 ) -> Result<Option<RecordState>, Error>
     requires { conn.old.in_transaction ≡ false }
-    ensures value { ReadsContents (state S.Store conn.old) (state S.Store conn.new) result
+    ensures { FindsContents (state S.Store conn.old) (state S.Store conn.new) result
         (λ c answer. answer ≡ record_state_of c.facts batch.now rec.now) }
-    ensures looks { Looks (state S.Store conn.old) (state S.Store conn.new) }
 {
     row_laws::batches_by_name();
     row_laws::records_by_name();

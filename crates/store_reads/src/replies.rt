@@ -2,8 +2,7 @@
 ghost use Rattle.std.specs.Prelude.{false, length, option_map, ◌≡◌};
 ghost use Rattle.sqlite.specs.Held.{state};
 ghost use Rattle.job_facts.specs.Contents.{entry_of, mark_of, reply_of_entry};
-ghost use Rattle.row_reads.specs.Reads.{Looks};
-ghost use Rattle.store_reads.specs.ReadsContents.{ReadsContents};
+ghost use Rattle.store_reads.specs.ReadsContents.{FindsContents};
 
 use crate::numbers::is_in_range;
 use job_facts::KeptReply;
@@ -17,9 +16,8 @@ pub fn kept<S: Alter>(
     number: u64,
 ) -> Result<Option<KeptReply>, Error>
     requires { conn.old.in_transaction ≡ false }
-    ensures value { ReadsContents (state S.Store conn.old) (state S.Store conn.new) result
+    ensures { FindsContents (state S.Store conn.old) (state S.Store conn.new) result
         (λ c answer. answer ≡ option_map reply_of_entry (entry_of c.kept client.now number)) }
-    ensures looks { Looks (state S.Store conn.old) (state S.Store conn.new) }
 {
     if !is_in_range(number) {
         return Err(Error::InvalidQuery);
@@ -31,9 +29,8 @@ pub fn kept<S: Alter>(
 /// Returns the release mark of `client`, or 0 if it has released nothing.
 pub fn mark<S: Alter>(conn: &mut Connection<S>, client: &Name) -> Result<u64, Error>
     requires { conn.old.in_transaction ≡ false }
-    ensures value { ReadsContents (state S.Store conn.old) (state S.Store conn.new) result
+    ensures { FindsContents (state S.Store conn.old) (state S.Store conn.new) result
         (λ c answer. answer ≡ mark_of c.marks client.now) }
-    ensures looks { Looks (state S.Store conn.old) (state S.Store conn.new) }
 {
     row_laws::replies_by_number();
     row_reads::mark(conn, client)
@@ -42,9 +39,8 @@ pub fn mark<S: Alter>(conn: &mut Connection<S>, client: &Name) -> Result<u64, Er
 /// Returns the number of kept replies.
 pub fn reply_count<S: Alter>(conn: &mut Connection<S>) -> Result<u64, Error>
     requires { conn.old.in_transaction ≡ false }
-    ensures value { ReadsContents (state S.Store conn.old) (state S.Store conn.new) result
+    ensures { FindsContents (state S.Store conn.old) (state S.Store conn.new) result
         (λ c answer. answer ≡ length c.kept) }
-    ensures looks { Looks (state S.Store conn.old) (state S.Store conn.new) }
 {
     row_reads::reply_count(conn)
 }

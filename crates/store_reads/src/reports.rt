@@ -2,9 +2,8 @@
 ghost use Rattle.std.specs.Prelude.{false, ◌≡◌, ◌<◌, ◌^◌};
 ghost use Rattle.sqlite.specs.Held.{state};
 ghost use Rattle.job_facts.specs.Accounts.{blank_totals, record_lines};
-ghost use Rattle.row_reads.specs.Reads.{Looks};
 ghost use Rattle.store_reads.specs.Lines.{lines_with};
-ghost use Rattle.store_reads.specs.ReadsContents.{ReadsContents};
+ghost use Rattle.store_reads.specs.ReadsContents.{FindsContents};
 
 use crate::lines::lines_for;
 use crate::sums::totals_of_rows;
@@ -17,9 +16,8 @@ use store_data::Name;
 fn lines_with<S: Alter>(conn: &mut Connection<S>, id: u64) -> Result<Vec<RecordLine>, Error>
     requires idle { conn.old.in_transaction ≡ false }
     requires id { id < 2 ^ 63 }
-    ensures value { ReadsContents (state S.Store conn.old) (state S.Store conn.new) result
+    ensures { FindsContents (state S.Store conn.old) (state S.Store conn.new) result
         (λ c lines. lines.items ≡ lines_with c.facts id) }
-    ensures looks { Looks (state S.Store conn.old) (state S.Store conn.new) }
 {
     row_laws::records_of_batches();
     let records = records_of(conn, id)?;
@@ -35,9 +33,8 @@ pub fn record_lines<S: Alter>(
     batch: &Name,
 ) -> Result<Vec<RecordLine>, Error>
     requires { conn.old.in_transaction ≡ false }
-    ensures value { ReadsContents (state S.Store conn.old) (state S.Store conn.new) result
+    ensures { FindsContents (state S.Store conn.old) (state S.Store conn.new) result
         (λ c lines. lines.items ≡ record_lines c.facts batch.now) }
-    ensures looks { Looks (state S.Store conn.old) (state S.Store conn.new) }
 {
     row_laws::batches_by_name();
     row_laws::lines_by_rows();
@@ -52,9 +49,8 @@ pub fn blank_totals<S: Alter>(
     product: &Name,
 ) -> Result<BlankTotals, Error>
     requires { conn.old.in_transaction ≡ false }
-    ensures value { ReadsContents (state S.Store conn.old) (state S.Store conn.new) result
+    ensures { FindsContents (state S.Store conn.old) (state S.Store conn.new) result
         (λ c answer. answer ≡ blank_totals c.facts product.now) }
-    ensures looks { Looks (state S.Store conn.old) (state S.Store conn.new) }
 {
     row_laws::blanks_by_rows();
     let lots = lots_of(conn, product)?;

@@ -8,7 +8,7 @@ ghost use Rattle.job_facts.specs.States.{running_session};
 ghost use Rattle.row_reads.specs.Reads.{Looks};
 ghost use Rattle.store_reads.specs.Known.{Knows};
 ghost use Rattle.store_reads.specs.Sessions.{row_named};
-ghost use Rattle.store_reads.specs.ReadsContents.{ReadsContents};
+ghost use Rattle.store_reads.specs.ReadsContents.{FindsContents, ReadsContents};
 
 use crate::known::Known;
 use crate::numbers::is_in_range;
@@ -75,9 +75,8 @@ pub fn running_session<S: Alter>(
     machine: &Name,
 ) -> Result<Option<u64>, Error>
     requires { conn.old.in_transaction ≡ false }
-    ensures value { ReadsContents (state S.Store conn.old) (state S.Store conn.new) result
+    ensures { FindsContents (state S.Store conn.old) (state S.Store conn.new) result
         (λ c answer. answer ≡ running_session c.facts machine.now) }
-    ensures looks { Looks (state S.Store conn.old) (state S.Store conn.new) }
 {
     row_laws::running_sessions_by_machine();
     row_reads::running_session(conn, machine)

@@ -2,6 +2,8 @@ use Rattle.row_reads.proofs.BatchAnswers.{batch_id_found}
 use Rattle.row_reads.proofs.AnswersOfRows.{answered_by}
 use Rattle.row_reads.proofs.batches.batch_id.Goals as goal
 
-pub returns-clause-found : goal.returns-clause-found
-returns-clause-found g c =
-    answered_by g.S.Store c.args.conn.now c.one_of.new.conn _ _ c.one_of.result _ _ (rw c.bytes.ensures.value at c.one_of.ensures.answered) (batch_id_found c.args.name.now _)
+pub returns-clause-finds : goal.returns-clause-finds
+returns-clause-finds g c = record {
+  found = answered_by g.S.Store c.args.conn.now c.one_of.new.conn _ _ c.one_of.result _ _ (rw c.bytes.ensures.value at c.one_of.ensures.answered) (batch_id_found c.args.name.now _);
+  looks = c.one_of.ensures.looks;
+}

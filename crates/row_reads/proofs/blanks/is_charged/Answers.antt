@@ -1,4 +1,4 @@
-use Rattle.std.proofs.Common.{◌≡◌, Ok}
+use Rattle.std.proofs.Common.{◌≡◌, Ok, rules}
 use Rattle.std.specs.List.{list_any}
 use Rattle.table_rows.specs.Keys.{is_blank}
 use Rattle.row_reads.specs.Decoding.{has_rows}
@@ -6,8 +6,11 @@ use Rattle.row_reads.proofs.BatchAnswers.{is_charged_found}
 use Rattle.row_reads.proofs.AnswersOfRows.{value_answered}
 use Rattle.row_reads.proofs.blanks.is_charged.Goals as goal
 
-pub returns-clause-found : goal.returns-clause-found
-returns-clause-found g c clean =
-    let shown = rw c.int.ensures at (c.in_ok-rows.ensures.shown clean) in
-    value_answered (λ x. x) has_rows _ _ _ _ _ _ c.as_slice.ensures.value shown.1 (Ok c.has_rows.result)
-    (λ t has. has ≡ list_any (is_blank c.args.serial) t.blanks) c.has_rows.ensures (is_charged_found c.args.serial _ _ _ shown.1)
+pub returns : goal.returns
+returns g c = record {
+  found = λ clean.
+      let shown = rw c.int.ensures at (c.in_ok-rows.ensures.shown clean) in
+      value_answered (λ x. x) has_rows _ _ _ _ _ _ c.as_slice.ensures.value shown.1 (Ok c.has_rows.result)
+      (λ t has. has ≡ list_any (is_blank c.args.serial) t.blanks) c.has_rows.ensures (is_charged_found c.args.serial _ _ _ shown.1);
+  looks = search rules;
+}

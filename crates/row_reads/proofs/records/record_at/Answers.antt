@@ -2,6 +2,8 @@ use Rattle.row_reads.proofs.CardAnswers.{record_at_found}
 use Rattle.row_reads.proofs.AnswersOfRows.{answered_by}
 use Rattle.row_reads.proofs.records.record_at.Goals as goal
 
-pub returns-clause-found : goal.returns-clause-found
-returns-clause-found g c =
-    answered_by g.S.Store c.args.conn.now c.one_of.new.conn _ _ c.one_of.result _ _ (rw (c.int.ensures, c.int-2.ensures) at c.one_of.ensures.answered) (record_at_found c.args.batch c.args.place _)
+pub returns-clause-finds : goal.returns-clause-finds
+returns-clause-finds g c = record {
+  found = answered_by g.S.Store c.args.conn.now c.one_of.new.conn _ _ c.one_of.result _ _ (rw (c.int.ensures, c.int-2.ensures) at c.one_of.ensures.answered) (record_at_found c.args.batch c.args.place _);
+  looks = c.one_of.ensures.looks;
+}

@@ -9,10 +9,13 @@ use Rattle.store_reads.specs.Heads.{row_of}
 use Rattle.store_reads.proofs.ReadContents.{shown}
 use Rattle.store_reads.proofs.batches.batch.Goals as goal
 
-pub returns-clause-value : goal.returns-clause-value
-returns-clause-value g c =
-    let name = c.args.name.now in
-    shown (state g.S.Store c.args.conn.now) (state g.S.Store c.batch_by_name.new.conn) _ _ c.in_ok-found.ensures.found
-    (λ d sound is.
-    search rules ∙ ap (option_map row_of) (is (c.batches_by_name.ensures.once d.facts name sound.facts)) ∙ option_map-map row_of batch_at (find (is_batch_named name) (stored_batches d.facts))
-    ∙ sym (c.batches_by_rows.ensures.row d.facts name))
+pub returns : goal.returns
+returns g c = record {
+  value =
+      let name = c.args.name.now in
+      shown (state g.S.Store c.args.conn.now) (state g.S.Store c.batch_by_name.new.conn) _ _ c.in_ok-found.ensures.finds.found
+      (λ d sound is.
+      search rules ∙ ap (option_map row_of) (is (c.batches_by_name.ensures.once d.facts name sound.facts)) ∙ option_map-map row_of batch_at (find (is_batch_named name) (stored_batches d.facts))
+      ∙ sym (c.batches_by_rows.ensures.row d.facts name));
+  looks = search rules;
+}

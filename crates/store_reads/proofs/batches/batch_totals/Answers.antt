@@ -1,4 +1,4 @@
-use Rattle.std.proofs.Common.{◌≡◌, Option, Some, None, refl, sym, ap, ◌∙◌}
+use Rattle.std.proofs.Common.{◌≡◌, Option, Some, None, refl, sym, ap, ◌∙◌, rules}
 use Rattle.std.specs.Prelude.{find, option_map}
 use Rattle.sqlite.specs.Held.{state}
 use Rattle.row_reads.specs.RowValues.{head_of}
@@ -14,10 +14,13 @@ by_row : (o : Option StoredBatch) → totals_in (option_map head_of o) ≡ rows.
 by_row None = refl
 by_row (Some b) = refl
 
-pub returns-clause-value : goal.returns-clause-value
-returns-clause-value g c =
-    let name = c.args.batch.now in
-    shown (state g.S.Store c.args.conn.now) (state g.S.Store c.batch_head.new.conn) _ _ c.in_ok-found.ensures.found
-    (λ d sound is.
-    c.totals_of.ensures ∙ ap totals_in (is (c.batches_by_name.ensures.once d.facts name sound.facts)) ∙ by_row (find (is_batch_named name) (stored_batches d.facts))
-    ∙ sym (c.totals_by_rows.ensures.totals d.facts name sound.facts))
+pub returns : goal.returns
+returns g c = record {
+  value =
+      let name = c.args.batch.now in
+      shown (state g.S.Store c.args.conn.now) (state g.S.Store c.batch_head.new.conn) _ _ c.in_ok-found.ensures.finds.found
+      (λ d sound is.
+      c.totals_of.ensures ∙ ap totals_in (is (c.batches_by_name.ensures.once d.facts name sound.facts)) ∙ by_row (find (is_batch_named name) (stored_batches d.facts))
+      ∙ sym (c.totals_by_rows.ensures.totals d.facts name sound.facts));
+  looks = search rules;
+}

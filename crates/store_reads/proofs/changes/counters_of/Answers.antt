@@ -22,5 +22,5 @@ returns-in-Some-clause-value g c clean live d sound is =
 pub returns-clause-value : goal.returns-clause-value
 returns-clause-value g c clean live d sound is =
     c.counters_at.ensures
-    ∙ ap (option_map counters_at) ((c.in_ok-head.ensures.found clean).1 (image d) is (c.batches_by_name.ensures.once d.facts c.args.batch.now sound.facts))
+    ∙ ap (option_map counters_at) ((c.in_ok-head.ensures.finds.found clean).1 (image d) is (c.batches_by_name.ensures.once d.facts c.args.batch.now sound.facts))
     ∙ option_map-map counters_at head_of _

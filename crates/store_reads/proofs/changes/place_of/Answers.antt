@@ -33,8 +33,8 @@ returns-clause-value g c clean live d sound is =
     let r = c.args.rec.now in
     let counters = c.in-Some.counters in
     let mid = state g.S.Store c.counters_of.new.conn in
-    let early : HasCleanDisk mid = omega (arith, clean, c.record_named.ensures.looks.survives.clean) in
-    let found = (rw c.in-Some-2.is at c.in_ok-card.ensures.found) clean in
+    let early : HasCleanDisk mid = omega (arith, clean, c.record_named.ensures.finds.looks.survives.clean) in
+    let found = (rw c.in-Some-2.is at c.in_ok-card.ensures.finds.found) clean in
     let here : IsImage (image d) mid.now = subst (IsImage (image d)) (sym ((c.counters_of.ensures.looks.kept early).now_is found.0)) is in
     subst (IsPlaceOf d.facts b r) (sym c.place_at-2.ensures)
     (record_placed d.facts b r (c.records_by_name.ensures.place d.facts b r) counters ((rw c.in-Some.is at c.in_ok-counters.ensures.value) early found.0 d sound is)

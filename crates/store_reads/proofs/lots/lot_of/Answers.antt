@@ -9,14 +9,17 @@ use Rattle.store_reads.proofs.LastLot.{last_contains, listed}
 use Rattle.store_reads.proofs.ReadContents.{shown}
 use Rattle.store_reads.proofs.lots.lot_of.Goals as goal
 
-pub returns-clause-value : goal.returns-clause-value
-returns-clause-value g c =
-    let blank = c.args.blank in
-    let serial = min blank MOST_SERIAL in
-    let low : serial ≤ blank = min-le_left blank MOST_SERIAL in
-    let high : (m : ℕ) → m ≤ blank → m < 10 ^ 18 → m ≤ serial = λ m least range. le-min least (omega arith) in
-    shown (state g.S.Store c.args.conn.now) (state g.S.Store c.last_lot.new.conn) _ _ c.in_ok-last.ensures.found
-    (λ d sound last.
-    c.copied.ensures ∙ c.lot_among.ensures ∙ ap (λ lots. lot_of lots blank) (listed c.in_ok-last.last c.as_slice.result.now c.as_slice.ensures)
-    ∙ last_contains d.facts.products d.facts.lots sound.facts.named.lots blank serial low high c.in_ok-last.last
-    (subst (λ lots. IsLastBegun serial lots c.in_ok-last.last) (c.lots_by_name.ensures.all d.facts) last))
+pub returns : goal.returns
+returns g c = record {
+  value =
+      let blank = c.args.blank in
+      let serial = min blank MOST_SERIAL in
+      let low : serial ≤ blank = min-le_left blank MOST_SERIAL in
+      let high : (m : ℕ) → m ≤ blank → m < 10 ^ 18 → m ≤ serial = λ m least range. le-min least (omega arith) in
+      shown (state g.S.Store c.args.conn.now) (state g.S.Store c.last_lot.new.conn) _ _ c.in_ok-last.ensures.found
+      (λ d sound last.
+      c.copied.ensures ∙ c.lot_among.ensures ∙ ap (λ lots. lot_of lots blank) (listed c.in_ok-last.last c.as_slice.result.now c.as_slice.ensures)
+      ∙ last_contains d.facts.products d.facts.lots sound.facts.named.lots blank serial low high c.in_ok-last.last
+      (subst (λ lots. IsLastBegun serial lots c.in_ok-last.last) (c.lots_by_name.ensures.all d.facts) last));
+  looks = c.last_lot.ensures.looks;
+}

@@ -20,20 +20,20 @@ returns-in-Some-clause-value g c =
 
 pub returns-in_err-id-clause-knows : goal.returns-in_err-id-clause-knows
 returns-in_err-id-clause-knows g c =
-    knows_after (state g.S.Store c.args.conn.now) (state g.S.Store c.batch_id.new.conn) c.args.known.now c.batch_id.ensures.looks c.requires.knows
+    knows_after (state g.S.Store c.args.conn.now) (state g.S.Store c.batch_id.new.conn) c.args.known.now c.batch_id.ensures.finds.looks c.requires.knows
 
 pub returns-in_default-2-clause-knows : goal.returns-in_default-2-clause-knows
 returns-in_default-2-clause-knows g c =
-    knows_after (state g.S.Store c.args.conn.now) (state g.S.Store c.batch_id.new.conn) c.args.known.now c.batch_id.ensures.looks c.requires.knows
+    knows_after (state g.S.Store c.args.conn.now) (state g.S.Store c.batch_id.new.conn) c.args.known.now c.batch_id.ensures.finds.looks c.requires.knows
 
 pub waiting_of-requires-2-clause-knows : goal.waiting_of-requires-2-clause-knows
 waiting_of-requires-2-clause-knows g c =
-    knows_after (state g.S.Store c.args.conn.now) (state g.S.Store c.batch_id.new.conn) c.args.known.now c.batch_id.ensures.looks c.requires.knows
+    knows_after (state g.S.Store c.args.conn.now) (state g.S.Store c.batch_id.new.conn) c.args.known.now c.batch_id.ensures.finds.looks c.requires.knows
 
 pub returns-in_default-2-clause-value : goal.returns-in_default-2-clause-value
 returns-in_default-2-clause-value g c =
     let b = c.args.batch.now in
-    shown (state g.S.Store c.args.conn.now) (state g.S.Store c.batch_id.new.conn) _ _ (rw c.in_default-2.is at c.in_ok-id.ensures.found)
+    shown (state g.S.Store c.args.conn.now) (state g.S.Store c.batch_id.new.conn) _ _ (rw c.in_default-2.is at c.in_ok-id.ensures.finds.found)
     (λ d sound is.
     none_waits (stored_batches d.facts) (stored_records d.facts) b (is (c.batches_by_name.ensures.once d.facts b sound.facts))
     ∙ sym (c.records_of_batches.ensures.waiting d.facts b))
@@ -46,8 +46,8 @@ returns-clause-value g c =
     let mid = state g.S.Store c.batch_id.new.conn in
     let new = state g.S.Store c.waiting_of-2.new.conn in
     reads_shown_then old mid new c.waiting_of-2.result (λ d. Some id ≡ option_map (λ (row : StoredBatch). row.id) (find (is_batch_named b) (stored_batches d.facts))) (λ d. IsFirstWaiting id (image d)) _
-    c.batch_id.ensures.looks c.waiting_of-2.ensures.looks
-    (shown old mid _ _ (rw c.in-Some-2.is at c.in_ok-id.ensures.found) (λ d sound is. is (c.batches_by_name.ensures.once d.facts b sound.facts)))
+    c.batch_id.ensures.finds.looks c.waiting_of-2.ensures.looks
+    (shown old mid _ _ (rw c.in-Some-2.is at c.in_ok-id.ensures.finds.found) (λ d sound is. is (c.batches_by_name.ensures.once d.facts b sound.facts)))
     (reads mid new c.waiting_of-2.result _ _ c.waiting_of-2.ensures.value (λ d sound x is. is))
     (λ d sound one name first.
     first_waits (stored_batches d.facts) (stored_records d.facts) b id one (c.records_of_batches.ensures.waiting_rising d.facts id) name first ∙ sym (c.records_of_batches.ensures.waiting d.facts b))

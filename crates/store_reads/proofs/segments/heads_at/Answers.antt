@@ -6,5 +6,5 @@ use Rattle.store_reads.proofs.segments.heads_at.Goals as goal
 
 pub returns-clause-value : goal.returns-clause-value
 returns-clause-value g c =
-    rows_as (state g.S.Store c.args.conn.now) (state g.S.Store c.groupings_of.new.conn) _ _ c.in_ok-groupings.ensures.found
+    rows_as (state g.S.Store c.args.conn.now) (state g.S.Store c.groupings_of.new.conn) _ _ c.in_ok-groupings.ensures.finds.found
     (λ t sorted. (c.in_ok-groupings.groupings.items, sorted, c.in_ok-heads.ensures ∙ ap heads_of c.as_slice.ensures.value))

@@ -18,7 +18,7 @@ returns-in_default-clause-value g c clean d sound is known =
 pub returns-clause-value : goal.returns-clause-value
 returns-clause-value g c clean d sound is known =
     let k = c.args.card.now in
-    let s = c.in_ok-coded.ensures.found clean in
+    let s = c.in_ok-coded.ensures.finds.found clean in
     ap (λ bytes. Some (row_of_head (let e : BatchProduct = record { id = k.id; product = k.product } in e) c.in-Some.placed bytes)) (c.in_ok-bytes.ensures ∙ ap (flat_map (λ (g : CodedAt). g.coded)) c.as_slice-2.ensures.value)
     ∙ with_head d k known (sound_apart c.batches_by_name.ensures.once c.records_by_name.ensures.once d sound) c.args.app c.args.segment (c.plans_by_rows.ensures d.facts k.batch k.rec)
     (c.groupings_by_place.ensures.rising d.facts k.id k.place) c.in-Some.placed

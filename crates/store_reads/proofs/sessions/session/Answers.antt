@@ -13,7 +13,7 @@ use Rattle.store_reads.proofs.sessions.session.Goals as goal
 pub returns-in_default-clause-value : goal.returns-in_default-clause-value
 returns-in_default-clause-value g c =
     let id = c.args.session in
-    shown (state g.S.Store c.args.conn.now) (state g.S.Store c.session.new.conn) _ _ (rw c.in_default.is at c.in_ok-found.ensures.found)
+    shown (state g.S.Store c.args.conn.now) (state g.S.Store c.session.new.conn) _ _ (rw c.in_default.is at c.in_ok-found.ensures.finds.found)
     (λ d sound is.
     no_session (stored_sessions d.facts) (stored_batches d.facts) (stored_records d.facts) id (is (c.sessions_by_number.ensures.once d.facts id))
     ∙ sym (c.sessions_by_number.ensures.row d.facts id sound.facts))
@@ -22,8 +22,8 @@ pub returns-in_default-2-clause-value : goal.returns-in_default-2-clause-value
 returns-in_default-2-clause-value g c =
     let id = c.args.session in
     let s = c.in-Some.found in
-    both_shown (state g.S.Store c.args.conn.now) (state g.S.Store c.session.new.conn) (state g.S.Store c.batch_name.new.conn) _ _ _ c.session.ensures.looks c.batch_name.ensures.looks
-    (rw c.in-Some.is at c.in_ok-found.ensures.found) (rw c.in_default-2.is at c.in_ok-batch.ensures.found)
+    both_shown (state g.S.Store c.args.conn.now) (state g.S.Store c.session.new.conn) (state g.S.Store c.batch_name.new.conn) _ _ _ c.session.ensures.finds.looks c.batch_name.ensures.looks
+    (rw c.in-Some.is at c.in_ok-found.ensures.finds.found) (rw c.in_default-2.is at c.in_ok-batch.ensures.found)
     (λ d sound first second.
     no_batch (stored_sessions d.facts) (stored_batches d.facts) (stored_records d.facts) id s (first (c.sessions_by_number.ensures.once d.facts id)) (second (c.batches_by_id.ensures.once d.facts s.batch))
     ∙ sym (c.sessions_by_number.ensures.row d.facts id sound.facts))
@@ -33,8 +33,8 @@ returns-in_default-3-clause-value g c =
     let id = c.args.session in
     let s = c.in-Some.found in
     three_shown (state g.S.Store c.args.conn.now) (state g.S.Store c.session.new.conn) (state g.S.Store c.batch_name.new.conn) (state g.S.Store c.record_at.new.conn) _ _ _ _
-    c.session.ensures.looks c.batch_name.ensures.looks c.record_at.ensures.looks
-    (rw c.in-Some.is at c.in_ok-found.ensures.found) (rw c.in-Some-2.is at c.in_ok-batch.ensures.found) (rw c.in_default-3.is at c.in_ok-card.ensures.found)
+    c.session.ensures.finds.looks c.batch_name.ensures.looks c.record_at.ensures.finds.looks
+    (rw c.in-Some.is at c.in_ok-found.ensures.finds.found) (rw c.in-Some-2.is at c.in_ok-batch.ensures.found) (rw c.in_default-3.is at c.in_ok-card.ensures.finds.found)
     (λ d sound first second third.
     no_record (stored_sessions d.facts) (stored_batches d.facts) (stored_records d.facts) id s (first (c.sessions_by_number.ensures.once d.facts id)) c.in-Some-2.batch
     (second (c.batches_by_id.ensures.once d.facts s.batch)) (third (c.records_by_place.ensures.once d.facts s.batch s.place)) ∙ sym (c.sessions_by_number.ensures.row d.facts id sound.facts))
@@ -44,8 +44,8 @@ returns-clause-value g c =
     let id = c.args.session in
     let s = c.in-Some.found in
     three_shown (state g.S.Store c.args.conn.now) (state g.S.Store c.session.new.conn) (state g.S.Store c.batch_name.new.conn) (state g.S.Store c.record_at.new.conn) _ _ _ _
-    c.session.ensures.looks c.batch_name.ensures.looks c.record_at.ensures.looks
-    (rw c.in-Some.is at c.in_ok-found.ensures.found) (rw c.in-Some-2.is at c.in_ok-batch.ensures.found) (rw c.in-Some-3.is at c.in_ok-card.ensures.found)
+    c.session.ensures.finds.looks c.batch_name.ensures.looks c.record_at.ensures.finds.looks
+    (rw c.in-Some.is at c.in_ok-found.ensures.finds.found) (rw c.in-Some-2.is at c.in_ok-batch.ensures.found) (rw c.in-Some-3.is at c.in_ok-card.ensures.finds.found)
     (λ d sound first second third.
     ap Some c.row_named-2.ensures
     ∙ session_read (stored_sessions d.facts) (stored_batches d.facts) (stored_records d.facts) id s (first (c.sessions_by_number.ensures.once d.facts id))
@@ -58,8 +58,8 @@ returns-in-Some-at-clause-value g c clean =
     let old = state g.S.Store c.args.conn.now in
     let s = c.in-Some.found in
     let k = c.in-Some-at.card.now in
-    let early : HasCleanDisk old = omega (arith, clean, c.session.ensures.looks.survives.clean) in
-    let shows = (rw c.in-Some.is at c.in_ok-found.ensures.found) clean in (
+    let early : HasCleanDisk old = omega (arith, clean, c.session.ensures.finds.looks.survives.clean) in
+    let shows = (rw c.in-Some.is at c.in_ok-found.ensures.finds.found) clean in (
       shows.0,
       λ d sound is.
           let known = known_in old c.args.known.now c.requires.knows early shows.0 k c.in-Some-at.ensures.known (image d) is (sound_apart c.batches_by_name.ensures.once c.records_by_name.ensures.once d sound) in
