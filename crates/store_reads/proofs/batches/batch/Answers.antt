@@ -17,5 +17,5 @@ returns g c = record {
       (λ d sound is.
       search rules ∙ ap (option_map row_of) (is (c.batches_by_name.ensures.once d.facts name sound.facts)) ∙ option_map-map row_of batch_at (find (is_batch_named name) (stored_batches d.facts))
       ∙ sym (c.batches_by_rows.ensures.row d.facts name));
-  looks = search rules;
+  looks = c.batch_by_name.ensures.finds.looks;
 }

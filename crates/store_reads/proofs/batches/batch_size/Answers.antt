@@ -1,4 +1,4 @@
-use Rattle.std.proofs.Common.{sym, ◌∙◌, rules}
+use Rattle.std.proofs.Common.{sym, ◌∙◌}
 use Rattle.std.specs.Prelude.{find}
 use Rattle.sqlite.specs.Held.{state}
 use Rattle.table_rows.specs.Keys.{is_batch_named}
@@ -15,7 +15,7 @@ returns-in_default g c = record {
       (λ d sound is.
       no_size (stored_groupings d.facts) (find (is_batch_named n) (stored_batches d.facts)) (is (c.batches_by_name.ensures.once d.facts n sound.facts))
       ∙ sym (c.batches_by_rows.ensures.size d.facts n));
-  looks = search rules;
+  looks = c.batch_head.ensures.finds.looks;
 }
 
 pub returns : goal.returns

@@ -1,4 +1,4 @@
-use Rattle.std.proofs.Common.{◌≡◌, Option, Some, None, refl, sym, ap, ◌∙◌, rules}
+use Rattle.std.proofs.Common.{◌≡◌, Option, Some, None, refl, sym, ap, ◌∙◌}
 use Rattle.std.specs.Prelude.{find, option_map}
 use Rattle.sqlite.specs.Held.{state}
 use Rattle.row_reads.specs.RowValues.{head_of}
@@ -22,5 +22,5 @@ returns g c = record {
       (λ d sound is.
       c.totals_of.ensures ∙ ap totals_in (is (c.batches_by_name.ensures.once d.facts name sound.facts)) ∙ by_row (find (is_batch_named name) (stored_batches d.facts))
       ∙ sym (c.totals_by_rows.ensures.totals d.facts name sound.facts));
-  looks = search rules;
+  looks = c.batch_head.ensures.finds.looks;
 }

@@ -1,4 +1,4 @@
-use Rattle.std.proofs.Common.{◌≡◌, Option, Some, None, refl, sym, ap, ◌∙◌, rules}
+use Rattle.std.proofs.Common.{◌≡◌, Option, Some, None, refl, sym, ap, ◌∙◌}
 use Rattle.std.specs.Prelude.{find}
 use Rattle.sqlite.specs.Held.{state}
 use Rattle.table_rows.specs.Keys.{is_batch_named}
@@ -21,5 +21,5 @@ returns g c = record {
       (λ d sound is.
       c.is_over.ensures ∙ ap is_over (is ∙ c.totals_by_rows.ensures.totals d.facts name sound.facts) ∙ by_row (find (is_batch_named name) (stored_batches d.facts))
       ∙ sym (c.totals_by_rows.ensures.finished d.facts name sound.facts));
-  looks = search rules;
+  looks = c.batch_totals.ensures.looks;
 }

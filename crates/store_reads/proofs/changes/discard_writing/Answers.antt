@@ -1,4 +1,4 @@
-use Rattle.std.proofs.Common.{refl, rules}
+use Rattle.std.proofs.Common.{refl}
 use Rattle.sqlite.specs.Held.{state}
 use Rattle.store_reads.proofs.Placed.{lot_discarded}
 use Rattle.store_reads.proofs.ReadContents.{shown}
@@ -11,5 +11,5 @@ returns g c = record {
       let row = c.in-Some.row in
       shown (state g.S.Store c.args.conn.now) (state g.S.Store c.lot.new.conn) _ _ (rw c.in-Some.is at c.in_ok-row.ensures.finds.found)
       (λ d sound is. (row.discarded, lot_discarded d.facts n (c.lots_by_name.ensures.discarded d.facts n) row (is (c.lots_by_name.ensures.once d.facts n sound.facts)), refl));
-  looks = search rules;
+  looks = c.lot.ensures.finds.looks;
 }

@@ -14,5 +14,5 @@ returns g c = record {
       let name = c.args.name.now in
       shown (state g.S.Store c.args.conn.now) (state g.S.Store c.lot.new.conn) _ _ c.in_ok-found.ensures.finds.found
       (λ d sound is. search rules ∙ ap (option_map (λ (row : LotRow). row.lot)) (is (named.once d.facts name sound.facts)) ∙ option_map-map (λ (row : LotRow). row.lot) lot_row_of _ ∙ sym (named.lot d.facts name));
-  looks = search rules;
+  looks = c.lot.ensures.finds.looks;
 }

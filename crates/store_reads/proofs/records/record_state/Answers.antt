@@ -13,7 +13,7 @@ returns-in_default g c = record {
       (λ d sound is.
       no_batch_of (stored_batches d.facts) (stored_records d.facts) b c.args.rec.now (is (c.batches_by_name.ensures.once d.facts b sound.facts))
       ∙ sym (c.records_by_name.ensures.state d.facts b c.args.rec.now));
-  looks = search rules;
+  looks = c.batch_id.ensures.finds.looks;
 }
 
 pub returns : goal.returns

@@ -1,4 +1,3 @@
-use Rattle.std.proofs.Common.{rules}
 use Rattle.sqlite.specs.Held.{state}
 use Rattle.store_reads.proofs.ReadContents.{reads}
 use Rattle.store_reads.proofs.replies.kept.Goals as goal
@@ -6,7 +5,7 @@ use Rattle.store_reads.proofs.replies.kept.Goals as goal
 pub returns : goal.returns
 returns g c = record {
   value = reads (state g.S.Store c.args.conn.now) (state g.S.Store c.kept.new.conn) c.kept.result _ _ c.kept.ensures.found (λ d sound x is. is (c.replies_by_number.ensures.once d c.args.client.now c.args.number sound));
-  looks = search rules;
+  looks = c.kept.ensures.looks;
 }
 
 pub kept-requires-clause-number : goal.kept-requires-clause-number

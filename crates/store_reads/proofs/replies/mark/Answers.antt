@@ -1,4 +1,3 @@
-use Rattle.std.proofs.Common.{rules}
 use Rattle.sqlite.specs.Held.{state}
 use Rattle.store_reads.proofs.ReadContents.{reads}
 use Rattle.store_reads.proofs.replies.mark.Goals as goal
@@ -6,5 +5,5 @@ use Rattle.store_reads.proofs.replies.mark.Goals as goal
 pub returns : goal.returns
 returns g c = record {
   value = reads (state g.S.Store c.args.conn.now) (state g.S.Store c.mark.new.conn) c.mark.result _ _ c.mark.ensures.finds.found (λ d sound x is. is (c.replies_by_number.ensures.marks_named d sound));
-  looks = search rules;
+  looks = c.mark.ensures.finds.looks;
 }

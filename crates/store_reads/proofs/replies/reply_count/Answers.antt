@@ -1,4 +1,3 @@
-use Rattle.std.proofs.Common.{rules}
 use Rattle.sqlite.specs.Held.{state}
 use Rattle.store_reads.proofs.ReadContents.{reads}
 use Rattle.store_reads.proofs.replies.reply_count.Goals as goal
@@ -6,5 +5,5 @@ use Rattle.store_reads.proofs.replies.reply_count.Goals as goal
 pub returns : goal.returns
 returns g c = record {
   value = reads (state g.S.Store c.args.conn.now) (state g.S.Store c.reply_count.new.conn) c.reply_count.result _ _ c.reply_count.ensures.found (λ d sound x is. is);
-  looks = search rules;
+  looks = c.reply_count.ensures.looks;
 }

@@ -1,4 +1,4 @@
-use Rattle.std.proofs.Common.{sym, ◌∙◌, rules}
+use Rattle.std.proofs.Common.{sym, ◌∙◌}
 use Rattle.sqlite.specs.Held.{state}
 use Rattle.store_reads.proofs.ReadContents.{reads}
 use Rattle.store_reads.proofs.sessions.running_session.Goals as goal
@@ -9,5 +9,5 @@ returns g c = record {
       let law = c.running_sessions_by_machine.ensures in
       reads (state g.S.Store c.args.conn.now) (state g.S.Store c.running_session.new.conn) c.running_session.result _ _ c.running_session.ensures.finds.found
       (λ d sound x is. is (law.once d.facts c.args.machine.now sound.facts) ∙ sym (law.number d.facts c.args.machine.now));
-  looks = search rules;
+  looks = c.running_session.ensures.finds.looks;
 }

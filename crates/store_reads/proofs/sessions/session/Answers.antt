@@ -7,7 +7,7 @@ use Rattle.table_rows.specs.Keys.{is_record_at}
 use Rattle.store_reads.proofs.ByKnown.{session_by_known, sound_apart}
 use Rattle.store_reads.proofs.Found.{name_read, no_batch, no_record, no_session, session_read}
 use Rattle.store_reads.proofs.KnownRows.{known_in}
-use Rattle.store_reads.proofs.ReadContents.{both_shown, shown, three_shown}
+use Rattle.store_reads.proofs.ReadContents.{both_shown, looks_then, shown, three_shown}
 use Rattle.store_reads.proofs.sessions.session.Goals as goal
 
 pub returns-in_default-clause-value : goal.returns-in_default-clause-value
@@ -68,6 +68,14 @@ returns-in-Some-at-clause-value g c clean =
           c.in-Some-at.ensures.id c.in-Some-at.ensures.place
           ∙ sym (c.sessions_by_number.ensures.row d.facts c.args.session sound.facts),
     )
+
+pub returns-clause-looks : goal.returns-clause-looks
+returns-clause-looks g c =
+    let old = state g.S.Store c.args.conn.now in
+    let mid = state g.S.Store c.batch_name.new.conn in
+    looks_then old mid (state g.S.Store c.record_at.new.conn)
+    (looks_then old (state g.S.Store c.session.new.conn) mid c.session.ensures.finds.looks c.batch_name.ensures.looks)
+    c.record_at.ensures.finds.looks
 
 pub session-requires-clause-id : goal.session-requires-clause-id
 session-requires-clause-id g c = c.is_in_range.ensures.0 c.if-not-is_in_range.false
