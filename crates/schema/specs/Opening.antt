@@ -40,7 +40,6 @@ pub record OpensExisting {S : Type 0} (g : Ghosts S) (old : Held S) (result : Re
   pub opened : IfOk result (λ store. HasCleanDisk (state g (connection store)) → IsTrue (state g (connection store)).is_open)
   -- The store has contents that an open finds in the trees of the database.
   pub takes : IfOk result (λ store. HasCleanDisk (state g (connection store)) → TakesAt (state g old).now.trees (stands_for g store))
-
   -- ---- the faults
 
   -- The tables are those of no version (refusal 81).
@@ -52,7 +51,6 @@ pub record OpensExisting {S : Type 0} (g : Ghosts S) (old : Held S) (result : Re
   pub refuses : IfErr result (λ e. HasCleanDisk (state g e.0) → IsTrue (state g old).is_open → IsRefusal e.1 → (state g old).now.schema ≢ no_schema → Stands None (state g old).now.trees)
   -- A fault of the store has a cause.
   pub cause : IfErr result (λ e. HasCleanDisk (state g e.0) → (own : StoreFault) → e.1 ≡ fault.Store own → IsCaused g (state g old) (state g e.0) own)
-
   -- ---- the database
 
   pub kept : IfErr result (λ e. HasCleanDisk (state g e.0) → IsKept (state g old) (state g e.0))
