@@ -1,5 +1,5 @@
 //! Finds the cause for refusing an import after its reply was sent, and writes its event line.
-ghost use Rattle.std.specs.Prelude.{◌≡◌, option_map};
+ghost use Rattle.std.specs.Prelude.{◌≡◌, IfSome, Some, option_map};
 ghost use Rattle.event_lines.specs.Notes.{NotesAll};
 ghost use Rattle.job_facts.specs.Reopening.{counts_of};
 ghost use Rattle.job_facts.specs.Store.{Stays};
@@ -15,7 +15,7 @@ use import_causes::note_refused;
 use job_facts::{Call, Request, ServerStore};
 use std::alloc::Global;
 use std::io::Write;
-use store_data::{Name, ValidProduct};
+use store_data::{Name, Product, ValidProduct};
 
 /// Adds the product of an import that was refused, because the cause can depend on it. `is_on`
 /// tells whether event lines are written. Otherwise nothing is read.
@@ -63,9 +63,18 @@ fn product_named<S: ServerStore>(store: &mut S, code: &Name) -> Option<ValidProd
     ensures product { FindsProduct (S.state store.old) (S.state store.new) code.now result }
 {
     match store.product(code) {
-        Ok(Some(product)) => ValidProduct::new(product),
-        Ok(None) => None,
+        Ok(product) => valid_product(product),
         Err(_) => None,
+    }
+}
+
+// Returns the product, if its settings are in range. The products of a store are.
+fn valid_product(product: Option<Product>) -> Option<ValidProduct>
+    ensures { IfSome result (λ valid. product ≡ Some valid) }
+{
+    match product {
+        Some(product) => ValidProduct::new(product),
+        None => None,
     }
 }
 
