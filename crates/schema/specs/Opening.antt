@@ -42,9 +42,9 @@ pub record OpensExisting {S : Type 0} (g : Ghosts S) (old : Held S) (result : Re
   pub takes : IfOk result (λ store. HasCleanDisk (state g (connection store)) → TakesAt (state g old).now.trees (stands_for g store))
   -- ---- the faults
 
-  -- The tables are those of no version (refusal 81).
+  -- The tables match no version (refusal 81).
   pub not_ours : IfErr result (λ e. HasCleanDisk (state g e.0) → e.1 ≡ fault.NotOurs → (v : Version) → ¬ IsOfVersion v (state g old).now)
-  -- The tables are those of a version, but the rows aren't those of sound contents (refusal 82).
+  -- The tables match a version, but no sound contents have these rows (refusal 82).
   pub damaged : IfErr result (λ e. HasCleanDisk (state g e.0) → e.1 ≡ fault.Damaged
       → ((v : Version) × IsOfVersion v (state g old).now) × ((v : Version) → ¬ HoldsSoundRows v (state g old).now))
   -- An open of a refused database finds no contents in it.
