@@ -337,6 +337,12 @@ module _ (check : Bool) (raw : List ℕ) (taken : List Row) (batch : ℕ) (names
 
 -- ---- steps of an import
 
+-- The rows that were read are rows of a batch file, so they are few.
+pub few_lines : {check : Bool} {raw : List ℕ} {taken : List Row} {batch : ℕ} {names : List (List ℕ)} {line : ℕ} {rows : List FileRow} {records : List NewRecord} {more_names : List (List ℕ)} {left : Left}
+    → TakesRows check raw taken batch names line rows records more_names left → line + length rows ≤ 4098
+few_lines {check} {raw} {taken} {batch} {names} {line} {rows} {records} {more_names} {left} takes =
+    omega (arith, as_many check raw taken batch names line rows records more_names left takes, taken_few check raw (taken ++ takes.next) more_names (line + length takes.next) left takes.taken_too)
+
 module _ (check : Bool) (raw : List ℕ) (batch : ℕ) where
   pub none_imported : (names : List (List ℕ)) (left : Left) (a : State) → names ≡ [] → left ≡ Ok (coming_of check raw) → IsImported check raw batch names 2 left a a
   none_imported names left a is_names is_left = record {
@@ -350,10 +356,6 @@ module _ (check : Bool) (raw : List ℕ) (batch : ℕ) where
     of_file = (check, (raw, (imported.taken, imported.is)))
 
     module _ (rows : List FileRow) (records : List NewRecord) (more_names : List (List ℕ)) (after : Left) (takes : TakesRows check raw imported.taken batch names line rows records more_names after) where
-      pub behind_line : line + length rows ≤ 4098
-      behind_line =
-          omega (arith, as_many check raw imported.taken batch names line rows records more_names after takes, taken_few check raw (imported.taken ++ takes.next) more_names (line + length takes.next) after takes.taken_too)
-
       pub imported_more : (c : State) → (HasCleanDisk c → HasCleanDisk b) → (HasCleanDisk c → GoesOn (Moves (with_next rows records)) b c)
           → IsImported check raw batch more_names (line + length rows) after a c
       imported_more c early put = record {

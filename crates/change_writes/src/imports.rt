@@ -82,7 +82,7 @@ fn refused(fault: ImportFault) -> Error
     }
 }
 
-// Adds the rows of a batch file. At most sixteen rows at a time are in memory.
+// Adds the rows of a batch file.
 fn add_rows<S: Alter>(
     tx: &mut Transaction<'_, S>,
     alloc: Global,
@@ -94,11 +94,31 @@ fn add_rows<S: Alter>(
     ensures { let rows = (coming_of product.now.check raw.now).rows in
         WritesInParts S.Store (with_file_rows batch rows) tx.old.conn tx.new.conn result }
 {
-    let mut names = IndexSet::new(alloc);
-    let mut line = FIRST_DATA_ROW;
     let mut stream = rows(alloc, raw, product);
+    let mut names = IndexSet::new(alloc);
+    add_stream(tx, alloc, batch, &mut stream, &mut names)
+}
+
+// Adds all rows of `stream`, and their names to `names`. At most sixteen rows at a time are in
+// memory. The prover is slow at a loop in the function that owns `stream`, because every exit of
+// the loop drops it.
+fn add_stream<S: Alter>(
+    tx: &mut Transaction<'_, S>,
+    alloc: Global,
+    batch: u64,
+    stream: &mut BatchRows<'_>,
+    names: &mut IndexSet<Name>,
+) -> Result<(), Error>
+    requires batch { batch < 2 ^ 63 }
+    requires start { (names.old.keys ≡ [])
+        × ((check : Bool) × ((raw : List ℕ) × (stream.old ≡ Ok (coming_of check raw)))) }
+    ensures { (check : Bool) (raw : List ℕ) → stream.old ≡ Ok (coming_of check raw)
+        → WritesInParts S.Store (with_file_rows batch (coming_of check raw).rows)
+        tx.old.conn tx.new.conn result }
+{
+    let mut line = FIRST_DATA_ROW;
     loop {
-        let next = next_rows(&mut stream, alloc, batch, &mut names, line)?;
+        let next = next_rows(stream, alloc, batch, names, line)?;
         if next.rows.is_empty() {
             return Ok(());
         }
