@@ -1,6 +1,7 @@
 -- Lemmas about the head of a request that a client sends: its end, the result of its tests, and its
 -- meaning together with a body.
-use Rattle.std.proofs.Common.{◌≡◌, ◌<◌, ◌≤◌, ◌+◌, ◌-◌, ◌^◌, ◌==◌, ℕ, zero, suc, Bool, true, false, cond, List, [], ◌∷◌, ◌++◌, length, take, drop, reverse, get_or, Option, Some, None, inl, inr, refl, sym, ap, subst, ◌∙◌, codes, decimal, arith, append_assoc, append-nil, length-append, length-drop, length-take-le}
+use Rattle.std.proofs.Common.{◌≡◌, ◌<◌, ◌≤◌, ◌+◌, ◌-◌, ◌^◌, ◌==◌, ℕ, zero, suc, Bool, true, false, cond, List, [], ◌∷◌, ◌++◌, length, take, drop, reverse, get_or, Option}
+use Rattle.std.proofs.Common.{Some, None, inl, inr, refl, sym, ap, subst, ◌∙◌, codes, decimal, arith, append_assoc, append-nil, length-append, length-drop, length-take-le}
 use Rattle.std.specs.Prelude.{◌&&◌, not, nat_eq, nat_lt, nat_le, slice_index, Ok}
 use Rattle.std.specs.List.{ends_with, list_all}
 use Rattle.std.specs.Char.{digit_value, is_ascii_digit}
