@@ -241,9 +241,6 @@ size_field digits = record { name = codes "Content-Length"; raw = 32 ∷ digits;
 tree : List ℕ → List ℕ → RequestHead
 tree target digits = record { blank = []; method = codes "POST"; target = target; minor = 1; line_end = crlf; fields = host ∷ size_field digits ∷ []; last = crlf }
 
-nil-append : (xs : List ℕ) → [] ++ xs ≡ xs
-nil-append xs = refl
-
 tree_is_printed : (target digits : List ℕ) → laid target digits ≡ print_request (tree target digits)
 unfolding laid size_line tree host size_field httparse_on_literals
 tree_is_printed target digits =
