@@ -12,7 +12,7 @@ ghost use Rattle.arguments.specs.Words.{boot_needed, flag, number_option, number
 ghost use Rattle.arguments.specs.Words.{plan_command, port_needed, program, report_command};
 ghost use Rattle.arguments.specs.Words.{number_needed, serve_command, text_needed};
 ghost use Rattle.arguments.specs.declared.words.WordsFault.TheVariants.{Memory};
-ghost use Rattle.arguments.specs.declared.words.Unread.TheVariants as lacks;
+ghost use Rattle.arguments.specs.declared.words.ValueFault.TheVariants as lacks;
 
 use clap::builder::ValueParser;
 use clap::error::ErrorKind;
@@ -113,9 +113,9 @@ pub enum WordsFault {
 
 impl From<io::Error> for WordsFault {
     ghost use Rattle.std.specs.IoError.{error_kind};
-    ghost use Rattle.arguments.specs.Words.{unread};
+    ghost use Rattle.arguments.specs.Words.{fault_of_io};
 
-    ghost from_gives = { λ error fault. fault ≡ unread (error_kind error) };
+    ghost from_gives = { λ error fault. fault ≡ fault_of_io (error_kind error) };
 
     fn from(error: io::Error) -> WordsFault {
         if error.kind() == io::ErrorKind::OutOfMemory {
@@ -153,11 +153,11 @@ pub fn read_words<S: AsStr>(alloc: Global, words: &[S]) -> Result<Words, WordsFa
     match program(alloc)?.try_get_matches_from(words) {
         Ok(matches) => match words_of(alloc, &matches) {
             Ok(words) => Ok(words),
-            Err(Unread::Nothing) => {
+            Err(ValueFault::Nothing) => {
                 Err(WordsFault::Usage(String::from_str(alloc, OUT_OF_RANGE)?))
             }
-            Err(Unread::BadName) => Err(WordsFault::BadName),
-            Err(Unread::Memory) => Err(WordsFault::Memory),
+            Err(ValueFault::BadName) => Err(WordsFault::BadName),
+            Err(ValueFault::Memory) => Err(WordsFault::Memory),
         },
         Err(error) => Err(refusal_of(alloc, &error)?),
     }
@@ -313,7 +313,7 @@ pub fn flag<'a>(alloc: Global, name: &'a str) -> Arg<'a>
 
 /// A reason why arguments that `clap` accepts can't be read.
 #[derive(Clone, Copy, Debug, PartialEq, Eq)]
-enum Unread {
+enum ValueFault {
     /// A value is missing or out of range.
     Nothing,
     /// The value of `--batch` or `--machine` isn't a name.
@@ -322,30 +322,30 @@ enum Unread {
     Memory,
 }
 
-impl From<AllocError> for Unread {
+impl From<AllocError> for ValueFault {
     ghost from_gives = { λ _ why. why ≡ lacks.Memory };
 
-    fn from(_error: AllocError) -> Unread {
-        Unread::Memory
+    fn from(_error: AllocError) -> ValueFault {
+        ValueFault::Memory
     }
 }
 
 // Reads the subcommand that `clap` found.
-fn words_of(alloc: Global, matches: &ArgMatches<'_>) -> Result<Words, Unread>
+fn words_of(alloc: Global, matches: &ArgMatches<'_>) -> Result<Words, ValueFault>
     ensures ranges { IfOk result InRange }
     ensures meaning { IfOk result (ReadsAs (subcommand_rows_of matches.now)) }
     ensures unread { IfErr result (ReadsNot (subcommand_rows_of matches.now)) }
 {
     let Some((name, values)) = matches.subcommand() else {
-        return Err(Unread::Nothing);
+        return Err(ValueFault::Nothing);
     };
     match name {
-        "plan" => plan_of(values).ok_or(Unread::Nothing),
+        "plan" => plan_of(values).ok_or(ValueFault::Nothing),
         "drill" => Ok(Words::Drill),
         "serve" => serve_of(alloc, values),
         "report" => report_of(alloc, values),
         "feed" => feed_of(values),
-        _ => Err(Unread::Nothing),
+        _ => Err(ValueFault::Nothing),
     }
 }
 
@@ -364,19 +364,19 @@ fn plan_of(values: &ArgMatches<'_>) -> Option<Words>
 }
 
 // Reads the options of `serve`.
-fn serve_of(alloc: Global, values: &ArgMatches<'_>) -> Result<Words, Unread>
+fn serve_of(alloc: Global, values: &ArgMatches<'_>) -> Result<Words, ValueFault>
     ensures ranges { IfOk result InRange }
     ensures values { IfOk result (ReadsServe (rows_of (found_of values.now))) }
     ensures unread { IfErr result (ServesNot (rows_of (found_of values.now))) }
 {
     let Some(db) = values.get_str("db") else {
-        return Err(Unread::Nothing);
+        return Err(ValueFault::Nothing);
     };
     let Some(port) = number(values, "port", 1, 65_535) else {
-        return Err(Unread::Nothing);
+        return Err(ValueFault::Nothing);
     };
     let Some(turns) = number(values, "turns", 1, 1_000_000) else {
-        return Err(Unread::Nothing);
+        return Err(ValueFault::Nothing);
     };
     Ok(Words::Serve {
         db: String::from_str(alloc, db)?,
@@ -386,13 +386,13 @@ fn serve_of(alloc: Global, values: &ArgMatches<'_>) -> Result<Words, Unread>
 }
 
 // Reads the options of `report`.
-fn report_of(alloc: Global, values: &ArgMatches<'_>) -> Result<Words, Unread>
+fn report_of(alloc: Global, values: &ArgMatches<'_>) -> Result<Words, ValueFault>
     ensures ranges { IfOk result InRange }
     ensures values { IfOk result (ReadsReport (rows_of (found_of values.now))) }
     ensures unread { IfErr result (ReportsNot (rows_of (found_of values.now))) }
 {
     let Some(db) = values.get_str("db") else {
-        return Err(Unread::Nothing);
+        return Err(ValueFault::Nothing);
     };
     let batch = name_of(values, "batch")?;
     Ok(Words::Report {
@@ -402,16 +402,16 @@ fn report_of(alloc: Global, values: &ArgMatches<'_>) -> Result<Words, Unread>
 }
 
 // Reads the options of `feed`.
-fn feed_of(values: &ArgMatches<'_>) -> Result<Words, Unread>
+fn feed_of(values: &ArgMatches<'_>) -> Result<Words, ValueFault>
     ensures ranges { IfOk result InRange }
     ensures values { IfOk result (ReadsFeed (rows_of (found_of values.now))) }
     ensures unread { IfErr result (FeedsNot (rows_of (found_of values.now))) }
 {
     let Some(port) = number(values, "port", 1, 65_535) else {
-        return Err(Unread::Nothing);
+        return Err(ValueFault::Nothing);
     };
     let Some(boot) = number(values, "boot", 1, 9_999_999_999) else {
-        return Err(Unread::Nothing);
+        return Err(ValueFault::Nothing);
     };
     let machine = name_of(values, "machine")?;
     let batch = name_of(values, "batch")?;
@@ -425,15 +425,15 @@ fn feed_of(values: &ArgMatches<'_>) -> Result<Words, Unread>
 }
 
 // Reads the value of `option` as a name.
-fn name_of(values: &ArgMatches<'_>, option: &str) -> Result<Name, Unread>
+fn name_of(values: &ArgMatches<'_>, option: &str) -> Result<Name, ValueFault>
     ensures name { IfOk result (HasName option.now (rows_of (found_of values.now))) }
     ensures unread { IfErr result (NamesNot option.now (rows_of (found_of values.now))) }
 {
     let Some(text) = values.get_str(option) else {
-        return Err(Unread::Nothing);
+        return Err(ValueFault::Nothing);
     };
     let Some(name) = Name::new(text.as_bytes()) else {
-        return Err(Unread::BadName);
+        return Err(ValueFault::BadName);
     };
     Ok(name)
 }

@@ -8,7 +8,7 @@ ghost use Rattle.book_lines.specs.declared.blank_state.BlankState.{BlankState as
 ghost use Rattle.book_arguments.specs.Words.{Asks, AsksNot, HasState, IsForm, IsRefusal};
 ghost use Rattle.book_arguments.specs.Words.{IsUnread, LacksName, LacksState, Means, Reads};
 ghost use Rattle.book_arguments.specs.Words.{ReadsAs, ReadsNot, program};
-ghost use Rattle.book_arguments.specs.declared.words.Unread.TheVariants as lacks;
+ghost use Rattle.book_arguments.specs.declared.words.ValueFault.TheVariants as lacks;
 
 use crate::commands::program;
 use arguments::WordsFault;
@@ -71,9 +71,9 @@ pub fn read_book_words<S: AsStr>(alloc: Global, words: &[S]) -> Result<BookWords
     match program(alloc)?.try_get_matches_from(words) {
         Ok(matches) => match words_of(alloc, &matches) {
             Ok(words) => Ok(words),
-            Err(Unread::Nothing) => Err(WordsFault::Usage(bad_state(alloc, &matches)?)),
-            Err(Unread::BadName) => Err(WordsFault::BadName),
-            Err(Unread::Memory) => Err(WordsFault::Memory),
+            Err(ValueFault::Nothing) => Err(WordsFault::Usage(bad_state(alloc, &matches)?)),
+            Err(ValueFault::BadName) => Err(WordsFault::BadName),
+            Err(ValueFault::Memory) => Err(WordsFault::Memory),
         },
         Err(error) => Err(refusal_of(alloc, &error)?),
     }
@@ -93,7 +93,7 @@ fn bad_state(alloc: Global, matches: &ArgMatches<'_>) -> Result<String, AllocErr
 
 /// A reason why arguments that `clap` accepts can't be read.
 #[derive(Clone, Copy, Debug, PartialEq, Eq)]
-enum Unread {
+enum ValueFault {
     /// A value is missing, or the state isn't one.
     Nothing,
     /// The value of `--batch` or `--product` isn't a name.
@@ -102,36 +102,36 @@ enum Unread {
     Memory,
 }
 
-impl From<AllocError> for Unread {
+impl From<AllocError> for ValueFault {
     ghost from_gives = { λ _ why. why ≡ lacks.Memory };
 
-    fn from(_error: AllocError) -> Unread {
-        Unread::Memory
+    fn from(_error: AllocError) -> ValueFault {
+        ValueFault::Memory
     }
 }
 
 // Reads the subcommand that `clap` found.
-fn words_of(alloc: Global, matches: &ArgMatches<'_>) -> Result<BookWords, Unread>
+fn words_of(alloc: Global, matches: &ArgMatches<'_>) -> Result<BookWords, ValueFault>
     ensures meaning { IfOk result (ReadsAs (subcommand_rows_of matches.now)) }
     ensures unread { IfErr result (ReadsNot (subcommand_rows_of matches.now)) }
 {
     match matches.subcommand() {
-        None => Err(Unread::Nothing),
+        None => Err(ValueFault::Nothing),
         Some((name, values)) => read(alloc, name, values),
     }
 }
 
 // Reads the options of the subcommand `name`.
-fn read(alloc: Global, name: &str, values: &ArgMatches<'_>) -> Result<BookWords, Unread>
+fn read(alloc: Global, name: &str, values: &ArgMatches<'_>) -> Result<BookWords, ValueFault>
     ensures meaning { IfOk result (Reads name.now (rows_of (found_of values.now))) }
     ensures unread { IfErr result (IsUnread name.now (rows_of (found_of values.now))) }
 {
     let ask = ask_of(name, values)?;
     let Some(db) = values.get_str("db") else {
-        return Err(Unread::Nothing);
+        return Err(ValueFault::Nothing);
     };
     let Some(json) = json_of(name, values) else {
-        return Err(Unread::Nothing);
+        return Err(ValueFault::Nothing);
     };
     let db = String::from_str(alloc, db)?;
     Ok(BookWords { ask, db, json })
@@ -150,7 +150,7 @@ fn json_of(name: &str, values: &ArgMatches<'_>) -> Option<bool>
 }
 
 // Reads the options of the subcommand `name`, except `--db` and `--json`.
-fn ask_of(name: &str, values: &ArgMatches<'_>) -> Result<Ask, Unread>
+fn ask_of(name: &str, values: &ArgMatches<'_>) -> Result<Ask, ValueFault>
     ensures meaning { IfOk result (Asks name.now (rows_of (found_of values.now))) }
     ensures unread { IfErr result (AsksNot name.now (rows_of (found_of values.now))) }
 {
@@ -161,12 +161,12 @@ fn ask_of(name: &str, values: &ArgMatches<'_>) -> Result<Ask, Unread>
         "blanks" => blanks_of(values),
         "machines" => Ok(Ask::Machines),
         "sheet" => sheet_of(values),
-        _ => Err(Unread::Nothing),
+        _ => Err(ValueFault::Nothing),
     }
 }
 
 // Reads the options of `cards`.
-fn cards_of(values: &ArgMatches<'_>) -> Result<Ask, Unread>
+fn cards_of(values: &ArgMatches<'_>) -> Result<Ask, ValueFault>
     ensures meaning { IfOk result (Asks (codes "cards") (rows_of (found_of values.now))) }
     ensures unread { IfErr result (AsksNot (codes "cards") (rows_of (found_of values.now))) }
 {
@@ -175,7 +175,7 @@ fn cards_of(values: &ArgMatches<'_>) -> Result<Ask, Unread>
 }
 
 // Reads the options of `blanks`.
-fn blanks_of(values: &ArgMatches<'_>) -> Result<Ask, Unread>
+fn blanks_of(values: &ArgMatches<'_>) -> Result<Ask, ValueFault>
     ensures meaning { IfOk result (Asks (codes "blanks") (rows_of (found_of values.now))) }
     ensures unread { IfErr result (AsksNot (codes "blanks") (rows_of (found_of values.now))) }
 {
@@ -185,7 +185,7 @@ fn blanks_of(values: &ArgMatches<'_>) -> Result<Ask, Unread>
 }
 
 // Reads the options of `sheet`.
-fn sheet_of(values: &ArgMatches<'_>) -> Result<Ask, Unread>
+fn sheet_of(values: &ArgMatches<'_>) -> Result<Ask, ValueFault>
     ensures meaning { IfOk result (Asks (codes "sheet") (rows_of (found_of values.now))) }
     ensures unread { IfErr result (AsksNot (codes "sheet") (rows_of (found_of values.now))) }
 {
@@ -194,28 +194,28 @@ fn sheet_of(values: &ArgMatches<'_>) -> Result<Ask, Unread>
 }
 
 // Reads the value of `option` as a name.
-fn name_of(values: &ArgMatches<'_>, option: &str) -> Result<Name, Unread>
+fn name_of(values: &ArgMatches<'_>, option: &str) -> Result<Name, ValueFault>
     ensures name { IfOk result (HasName option.now (rows_of (found_of values.now))) }
     ensures unread { IfErr result (LacksName option.now (rows_of (found_of values.now))) }
 {
     match values.get_str(option) {
-        None => Err(Unread::Nothing),
+        None => Err(ValueFault::Nothing),
         Some(text) => match Name::new(text.as_bytes()) {
-            None => Err(Unread::BadName),
+            None => Err(ValueFault::BadName),
             Some(name) => Ok(name),
         },
     }
 }
 
 // Reads `--state`, if it is given.
-fn state_of(values: &ArgMatches<'_>) -> Result<Option<BlankState>, Unread>
+fn state_of(values: &ArgMatches<'_>) -> Result<Option<BlankState>, ValueFault>
     ensures state { IfOk result (HasState (rows_of (found_of values.now))) }
     ensures unread { IfErr result (LacksState (rows_of (found_of values.now))) }
 {
     match values.get_str("state") {
         None => Ok(None),
         Some(word) => match state_named(word) {
-            None => Err(Unread::Nothing),
+            None => Err(ValueFault::Nothing),
             Some(state) => Ok(Some(state)),
         },
     }

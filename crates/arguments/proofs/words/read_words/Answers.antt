@@ -4,7 +4,7 @@ use Rattle.clap.proofs.OnLiterals.{clap_on_literals}
 use Rattle.arguments.specs.Words.{IsRefusal, IsRefusedBy, ReadsAs, ReadsNot, program}
 use Rattle.arguments.specs.declared.words.WordsFault.{WordsFault}
 use Rattle.arguments.specs.declared.words.WordsFault.TheVariants.{Help, Version, Usage, NotText, BadName, Memory}
-use Rattle.arguments.specs.declared.words.Unread.TheVariants as lacks
+use Rattle.arguments.specs.declared.words.ValueFault.TheVariants as lacks
 use Rattle.arguments.proofs.words.read_words.Goals as goal
 
 free : is_simple_and_free program ≡ true

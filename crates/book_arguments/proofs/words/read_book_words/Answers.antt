@@ -5,7 +5,7 @@ use Rattle.arguments.specs.Words.{IsRefusedBy}
 use Rattle.book_arguments.specs.Words.{IsRefusal, ReadsAs, ReadsNot, program}
 use Rattle.arguments.specs.declared.words.WordsFault.{WordsFault}
 use Rattle.arguments.specs.declared.words.WordsFault.TheVariants.{Help, Version, Usage, NotText, BadName, Memory}
-use Rattle.book_arguments.specs.declared.words.Unread.TheVariants as lacks
+use Rattle.book_arguments.specs.declared.words.ValueFault.TheVariants as lacks
 use Rattle.book_arguments.proofs.words.read_book_words.Goals as goal
 
 free : is_simple_and_free program ≡ true
