@@ -206,10 +206,10 @@ abbrev pub ReadsNone : (Words → Type 0) → Type 0
 ReadsNone how = (w : Words) → InRange w → ¬ how w
 
 -- `option` has no value, or its value isn't a name
-abbrev pub NamesNot : Text → List Row → ValueFault → Type 0
-NamesNot option rows lacks.Nothing = (t : Text) → ¬ (first_of option rows ≡ Some t)
-NamesNot option rows lacks.BadName = HasBadName option rows
-NamesNot option rows lacks.Memory = ⊥
+abbrev pub LacksName : Text → List Row → ValueFault → Type 0
+LacksName option rows lacks.Nothing = (t : Text) → ¬ (first_of option rows ≡ Some t)
+LacksName option rows lacks.BadName = HasBadName option rows
+LacksName option rows lacks.Memory = ⊥
 
 -- the reason why the options `rows` of `serve` aren't read
 abbrev pub ServesNot : List Row → ValueFault → Type 0

@@ -1,12 +1,13 @@
 //! Reads the subcommand and its options from the arguments of `persod`.
 ghost use Rattle.std.specs.Prelude.{◌≡◌, ◌≤◌, ◌<◌, ◌^◌, ℕ, [], IfOk, IfErr, IfSome, IsTrue, ◌↔◌};
-ghost use Rattle.std.specs.Prelude.{None, Some, false, map};
-ghost use Rattle.clap.specs.Words.{HasKind, Kinds, app_of, fault_of, rule_of};
+ghost use Rattle.std.specs.Prelude.{None, Some, false, map, true};
+ghost use Rattle.clap.specs.Words.{HasKind, HasMatchesOf, Kinds, app_of, fault_of, rule_of};
+ghost use Rattle.clap.specs.Words.{is_simple_and_free};
 ghost use Rattle.clap.specs.declared.builder.command.Command.TheViews.{out-Command as fields_of};
 ghost use Rattle.clap.specs.Words.{found_of, rows_of, subcommand_rows_of};
 ghost use Rattle.arguments.specs.Words.{InRange, IsNumber, IsRefusal, IsRefusedBy, Means};
 ghost use Rattle.arguments.specs.Words.{ReadsAs, ReadsNot, ReadsPlan, ReadsReport, ReadsServe};
-ghost use Rattle.arguments.specs.Words.{FeedsNot, HasName, NamesNot, ReadsFeed, ReportsNot};
+ghost use Rattle.arguments.specs.Words.{FeedsNot, HasName, LacksName, ReadsFeed, ReportsNot};
 ghost use Rattle.arguments.specs.Words.{ServesNot, UsesStreams, drill_command, feed_command};
 ghost use Rattle.arguments.specs.Words.{boot_needed, flag, number_option, number_or, option};
 ghost use Rattle.arguments.specs.Words.{plan_command, port_needed, program, report_command};
@@ -150,15 +151,38 @@ pub fn read_words<S: AsStr>(alloc: Global, words: &[S]) -> Result<Words, WordsFa
     ensures taken { IfOk result (λ _. fault_of program (map S.text words.now) ≡ []) }
     ensures refusal { IfErr result (IsRefusal (map S.text words.now)) }
 {
-    match program(alloc)?.try_get_matches_from(words) {
-        Ok(matches) => match words_of(alloc, &matches) {
-            Ok(words) => Ok(words),
-            Err(ValueFault::Nothing) => {
-                Err(WordsFault::Usage(String::from_str(alloc, OUT_OF_RANGE)?))
-            }
-            Err(ValueFault::BadName) => Err(WordsFault::BadName),
-            Err(ValueFault::Memory) => Err(WordsFault::Memory),
-        },
+    let matches = matches_of(alloc, program(alloc)?, words)?;
+    match words_of(alloc, &matches) {
+        Ok(words) => Ok(words),
+        Err(ValueFault::Nothing) => Err(WordsFault::Usage(String::from_str(alloc, OUT_OF_RANGE)?)),
+        Err(ValueFault::BadName) => Err(WordsFault::BadName),
+        Err(ValueFault::Memory) => Err(WordsFault::Memory),
+    }
+}
+
+/// Returns what `clap` finds in the arguments `words` of a program. `command` describes its command
+/// line.
+///
+/// # Errors
+///
+/// - `Help`, `Version`: the arguments ask for help or for the version. The text is `clap`'s.
+/// - `Usage`: `clap` refuses the arguments. The text is `clap`'s.
+/// - `Memory`: an allocation fails.
+pub fn matches_of<'a, S: AsStr>(
+    alloc: Global,
+    command: Command<'a>,
+    words: &'a [S],
+) -> Result<ArgMatches<'a>, WordsFault>
+    requires { is_simple_and_free (app_of command) ≡ true }
+    ensures matches { IfOk result (HasMatchesOf (app_of command.entry)
+        (map S.text words.entry.now)) }
+    ensures taken { IfOk result
+        (λ _. fault_of (app_of command.entry) (map S.text words.entry.now) ≡ []) }
+    ensures refused { IfErr result
+        (IsRefusedBy (fault_of (app_of command.entry) (map S.text words.entry.now))) }
+{
+    match command.try_get_matches_from(words) {
+        Ok(matches) => Ok(matches),
         Err(error) => Err(refusal_of(alloc, &error)?),
     }
 }
@@ -313,10 +337,10 @@ pub fn flag<'a>(alloc: Global, name: &'a str) -> Arg<'a>
 
 /// A reason why arguments that `clap` accepts can't be read.
 #[derive(Clone, Copy, Debug, PartialEq, Eq)]
-enum ValueFault {
-    /// A value is missing or out of range.
+pub enum ValueFault {
+    /// A value is missing, or isn't one of those that are allowed.
     Nothing,
-    /// The value of `--batch` or `--machine` isn't a name.
+    /// A value isn't a name.
     BadName,
     /// An allocation failed.
     Memory,
@@ -424,10 +448,15 @@ fn feed_of(values: &ArgMatches<'_>) -> Result<Words, ValueFault>
     Ok(Words::Feed { port, start })
 }
 
-// Reads the value of `option` as a name.
-fn name_of(values: &ArgMatches<'_>, option: &str) -> Result<Name, ValueFault>
+/// Returns the value of the option `option` as a name.
+///
+/// # Errors
+///
+/// - `Nothing`: the option has no value.
+/// - `BadName`: its value isn't a name.
+pub fn name_of(values: &ArgMatches<'_>, option: &str) -> Result<Name, ValueFault>
     ensures name { IfOk result (HasName option.now (rows_of (found_of values.now))) }
-    ensures unread { IfErr result (NamesNot option.now (rows_of (found_of values.now))) }
+    ensures unread { IfErr result (LacksName option.now (rows_of (found_of values.now))) }
 {
     let Some(text) = values.get_str(option) else {
         return Err(ValueFault::Nothing);

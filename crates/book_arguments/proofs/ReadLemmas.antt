@@ -3,12 +3,13 @@ use Rattle.std.proofs.Common.{◌≡◌, ◌≢◌, ◌∙◌, Bool, true, false
 use Rattle.std.specs.Prelude.{IfSome, bytes_eq}
 use Rattle.clap.specs.Words.{Row, Text, first_of}
 use Rattle.arguments.specs.Words.{IsFlag}
-use Rattle.book_arguments.specs.Words.{Asks, AsksNot, HasState, IsForm, LacksName, LacksState}
+use Rattle.arguments.specs.Words.{LacksName}
+use Rattle.book_arguments.specs.Words.{Asks, AsksNot, HasState, IsForm, LacksState}
 use Rattle.book_lines.specs.declared.blank_state.BlankState.{BlankState}
 use Rattle.book_arguments.specs.declared.words.Ask.{Ask}
 use Rattle.book_arguments.specs.declared.words.Ask.TheVariants.{Check, Lists, Cards, Blanks, Machines, Sheet}
-use Rattle.book_arguments.specs.declared.words.ValueFault.{ValueFault}
-use Rattle.book_arguments.specs.declared.words.ValueFault.TheVariants as lacks
+use Rattle.arguments.specs.declared.words.ValueFault.{ValueFault}
+use Rattle.arguments.specs.declared.words.ValueFault.TheVariants as lacks
 
 -- Two texts are different if `bytes_eq` distinguishes them.
 distinct : (a b : Text) → bytes_eq a a ≡ true → bytes_eq a b ≡ false → a ≡ b → ⊥

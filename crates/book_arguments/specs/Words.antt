@@ -14,8 +14,8 @@ use Rattle.book_lines.specs.declared.blank_state.BlankState.{BlankState}
 use Rattle.book_arguments.specs.declared.words.Ask.{Ask}
 use Rattle.book_arguments.specs.declared.words.Ask.TheVariants.{Check, Lists, Cards, Blanks, Machines, Sheet}
 use Rattle.book_arguments.specs.declared.words.BookWords.{BookWords}
-use Rattle.book_arguments.specs.declared.words.ValueFault.{ValueFault}
-use Rattle.book_arguments.specs.declared.words.ValueFault.TheVariants as lacks
+use Rattle.arguments.specs.declared.words.ValueFault.{ValueFault}
+use Rattle.arguments.specs.declared.words.ValueFault.TheVariants as lacks
 
 -- ---- the command
 
@@ -103,12 +103,6 @@ abbrev pub Means : List Text → BookWords → Type 0
 Means words = ReadsAs (subcommand_of program words)
 
 -- ---- the refusals
-
--- `option` has no value, or its value isn't a name
-abbrev pub LacksName : Text → List Row → ValueFault → Type 0
-LacksName option rows lacks.Nothing = (t : Text) → ¬ (first_of option rows ≡ Some t)
-LacksName option rows lacks.BadName = HasBadName option rows
-LacksName option rows lacks.Memory = ⊥
 
 -- the value of `--state` isn't a state
 abbrev pub LacksState : List Row → ValueFault → Type 0

@@ -1,20 +1,17 @@
 //! Reads the subcommand, the path and the output form from the arguments of `shopbook`.
 ghost use Rattle.std.specs.Prelude.{◌≡◌, [], Bool, IfErr, IfOk, IfSome, None, codes, map};
-ghost use Rattle.clap.specs.Words.{HasKind, Kinds, fault_of, found_of, rows_of};
+ghost use Rattle.clap.specs.Words.{fault_of, found_of, rows_of};
 ghost use Rattle.clap.specs.Words.{subcommand_rows_of};
-ghost use Rattle.arguments.specs.Words.{HasName, IsRefusedBy};
 ghost use Rattle.book_lines.specs.Blanks.{state_word};
 ghost use Rattle.book_lines.specs.declared.blank_state.BlankState.{BlankState as StateValue};
 ghost use Rattle.book_arguments.specs.Words.{Asks, AsksNot, HasState, IsForm, IsRefusal};
-ghost use Rattle.book_arguments.specs.Words.{IsUnread, LacksName, LacksState, Means, Reads};
+ghost use Rattle.book_arguments.specs.Words.{IsUnread, LacksState, Means, Reads};
 ghost use Rattle.book_arguments.specs.Words.{ReadsAs, ReadsNot, program};
-ghost use Rattle.book_arguments.specs.declared.words.ValueFault.TheVariants as lacks;
 
 use crate::commands::program;
-use arguments::WordsFault;
+use arguments::{ValueFault, WordsFault, matches_of, name_of};
 use book_lines::BlankState;
-use clap::error::ErrorKind;
-use clap::{ArgMatches, Error};
+use clap::ArgMatches;
 use std::alloc::{AllocError, Global};
 use std::convert::AsStr;
 use store_data::Name;
@@ -68,14 +65,12 @@ pub fn read_book_words<S: AsStr>(alloc: Global, words: &[S]) -> Result<BookWords
     ensures taken { IfOk result (λ _. fault_of program (map S.text words.now) ≡ []) }
     ensures refusal { IfErr result (IsRefusal (map S.text words.now)) }
 {
-    match program(alloc)?.try_get_matches_from(words) {
-        Ok(matches) => match words_of(alloc, &matches) {
-            Ok(words) => Ok(words),
-            Err(ValueFault::Nothing) => Err(WordsFault::Usage(bad_state(alloc, &matches)?)),
-            Err(ValueFault::BadName) => Err(WordsFault::BadName),
-            Err(ValueFault::Memory) => Err(WordsFault::Memory),
-        },
-        Err(error) => Err(refusal_of(alloc, &error)?),
+    let matches = matches_of(alloc, program(alloc)?, words)?;
+    match words_of(alloc, &matches) {
+        Ok(words) => Ok(words),
+        Err(ValueFault::Nothing) => Err(WordsFault::Usage(bad_state(alloc, &matches)?)),
+        Err(ValueFault::BadName) => Err(WordsFault::BadName),
+        Err(ValueFault::Memory) => Err(WordsFault::Memory),
     }
 }
 
@@ -89,25 +84,6 @@ fn bad_state(alloc: Global, matches: &ArgMatches<'_>) -> Result<String, AllocErr
         "error: invalid value '{state}' for '--state <STATE>': use running, good, \
         spoiled or discarded\n"
     )
-}
-
-/// A reason why arguments that `clap` accepts can't be read.
-#[derive(Clone, Copy, Debug, PartialEq, Eq)]
-enum ValueFault {
-    /// A value is missing, or the state isn't one.
-    Nothing,
-    /// The value of `--batch` or `--product` isn't a name.
-    BadName,
-    /// An allocation failed.
-    Memory,
-}
-
-impl From<AllocError> for ValueFault {
-    ghost from_gives = { λ _ why. why ≡ lacks.Memory };
-
-    fn from(_error: AllocError) -> ValueFault {
-        ValueFault::Memory
-    }
 }
 
 // Reads the subcommand that `clap` found.
@@ -193,20 +169,6 @@ fn sheet_of(values: &ArgMatches<'_>) -> Result<Ask, ValueFault>
     Ok(Ask::Sheet { batch })
 }
 
-// Reads the value of `option` as a name.
-fn name_of(values: &ArgMatches<'_>, option: &str) -> Result<Name, ValueFault>
-    ensures name { IfOk result (HasName option.now (rows_of (found_of values.now))) }
-    ensures unread { IfErr result (LacksName option.now (rows_of (found_of values.now))) }
-{
-    match values.get_str(option) {
-        None => Err(ValueFault::Nothing),
-        Some(text) => match Name::new(text.as_bytes()) {
-            None => Err(ValueFault::BadName),
-            Some(name) => Ok(name),
-        },
-    }
-}
-
 // Reads `--state`, if it is given.
 fn state_of(values: &ArgMatches<'_>) -> Result<Option<BlankState>, ValueFault>
     ensures state { IfOk result (HasState (rows_of (found_of values.now))) }
@@ -233,23 +195,4 @@ fn state_named(word: &str) -> Option<BlankState>
         "discarded" => Some(BlankState::Discarded),
         _ => None,
     }
-}
-
-// Returns the fault for an error of `clap`.
-fn refusal_of(alloc: Global, error: &Error) -> Result<WordsFault, AllocError>
-    ensures { IfOk result (λ fault. (kinds : Kinds) → HasKind kinds error.now
-        → IsRefusedBy kinds fault) }
-{
-    let kind = error.kind();
-    if kind == ErrorKind::OutOfMemory {
-        return Ok(WordsFault::Memory);
-    }
-    let text = format!(in alloc; "{error}")?;
-    Ok(if kind == ErrorKind::DisplayHelp {
-        WordsFault::Help(text)
-    } else if kind == ErrorKind::DisplayVersion {
-        WordsFault::Version(text)
-    } else {
-        WordsFault::Usage(text)
-    })
 }
