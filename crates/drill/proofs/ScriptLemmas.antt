@@ -1,6 +1,6 @@
 -- The lines of a script that send a request to the server.
 use Rattle.std.proofs.Common.{◌≡◌, ℕ, ◌+◌, ◌-◌, ◌<◌, Bool, List, [], ◌∷◌, ◌++◌, codes, cond, drop, length, map, not, get_or, position, take, Bor, Option, Some, None, refl, sym, ap, arith, ◌∙◌}
-use Rattle.std.specs.Prelude.{bytes_eq, nat_lt, option_and_then, option_map}
+use Rattle.std.specs.Prelude.{bytes_eq, nat_lt, option_map}
 use Rattle.std.specs.List.{flat_map, prefix_len, position_or_len}
 use Rattle.std.proofs.lemmas.List.{drop-map, drop_more, length-drop, length-map, take_all, take-map}
 use Rattle.std.proofs.lemmas.List.Folds.{flat_map-map}

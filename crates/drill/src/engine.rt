@@ -90,10 +90,10 @@ fn do_line<S: Reopen + Drop, W: Write>(
         Goes S.state S.usable store floor.old (line.entry.text.now ∷ behind)
         (W.contents writer.old) (W.contents writer.new) p.0 floor.new (drop p.1 behind)) }
     ensures within { IfOk result (λ p. p.1 ≤ length line.entry.behind.now) }
-    ensures ends { IfErr result (λ why. let behind = map (λ l. l.now) line.entry.behind.now in
-        Runs S.state S.usable store floor.old (line.entry.number + length behind)
-        (line.entry.text.now ∷ behind) (W.contents writer.old) (W.contents writer.new)
-        (Err why)) }
+    ensures ends { IfErr result (λ why. Runs S.state S.usable store floor.old
+        (line.entry.number + length line.entry.behind.now)
+        (line.entry.text.now ∷ map (λ l. l.now) line.entry.behind.now)
+        (W.contents writer.old) (W.contents writer.new) (Err why)) }
 {
     let Some(did) = step(alloc, floor, &mut store, line.text, line.behind)? else {
         return Err(DrillStop::BadLine(line.number));
