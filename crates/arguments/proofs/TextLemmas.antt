@@ -4,9 +4,9 @@ use Rattle.std.specs.Borrow.{Bor}
 use Rattle.clap.specs.Words.{Row, Text, first_of, first_value, rows_of}
 use Rattle.clap.specs.declared.parser.matches.Found.{Found}
 use Rattle.clap.proofs.WalkLemmas.{first_value-rows}
-use Rattle.arguments.specs.Words.{FeedsNot, IsNumber, NamesNot, ReadsFeed, ReadsNone, ReadsReport, ReadsServe, ReportsNot}
-use Rattle.arguments.specs.declared.words.Unread.{Unread}
-use Rattle.arguments.specs.declared.words.Unread.TheVariants as lacks
+use Rattle.arguments.specs.Words.{FeedsNot, IsNumber, LacksName, ReadsFeed, ReadsNone, ReadsReport, ReadsServe, ReportsNot}
+use Rattle.arguments.specs.declared.words.ValueFault.{ValueFault}
+use Rattle.arguments.specs.declared.words.ValueFault.TheVariants as lacks
 use Rattle.arguments.specs.declared.words.Words.TheVariants.{Serve, Report, Feed}
 
 -- A getter of a text returns the first value of the option in the rows.
@@ -72,17 +72,17 @@ feed_no_batch rows none _ range reads = reads
 
 -- ---- an option whose value isn't a name
 
-pub reports_not : (rows : List Row) (why : Unread) → NamesNot (codes "batch") rows why → ReportsNot rows why
+pub reports_not : (rows : List Row) (why : ValueFault) → LacksName (codes "batch") rows why → ReportsNot rows why
 reports_not rows lacks.Nothing none = report_no_batch rows none
 reports_not rows lacks.BadName bad = bad
 reports_not rows lacks.Memory never = tt
 
-pub feeds_not_machine : (rows : List Row) (why : Unread) → NamesNot (codes "machine") rows why → FeedsNot rows why
+pub feeds_not_machine : (rows : List Row) (why : ValueFault) → LacksName (codes "machine") rows why → FeedsNot rows why
 feeds_not_machine rows lacks.Nothing none = feed_no_machine rows none
 feeds_not_machine rows lacks.BadName bad = inl bad
 feeds_not_machine rows lacks.Memory never = never
 
-pub feeds_not_batch : (rows : List Row) (why : Unread) → NamesNot (codes "batch") rows why → FeedsNot rows why
+pub feeds_not_batch : (rows : List Row) (why : ValueFault) → LacksName (codes "batch") rows why → FeedsNot rows why
 feeds_not_batch rows lacks.Nothing none = feed_no_batch rows none
 feeds_not_batch rows lacks.BadName bad = inr bad
 feeds_not_batch rows lacks.Memory never = never

@@ -17,8 +17,8 @@ use Rattle.std.specs.declared.io.ErrorKind.TheVariants as io
 use Rattle.store_data.specs.Name.{is_name}
 use Rattle.arguments.specs.declared.words.Words.{Words}
 use Rattle.arguments.specs.declared.words.Words.TheVariants.{Plan, Drill, Serve, Report, Feed}
-use Rattle.arguments.specs.declared.words.Unread.{Unread}
-use Rattle.arguments.specs.declared.words.Unread.TheVariants as lacks
+use Rattle.arguments.specs.declared.words.ValueFault.{ValueFault}
+use Rattle.arguments.specs.declared.words.ValueFault.TheVariants as lacks
 use Rattle.arguments.specs.declared.words.WordsFault.{WordsFault}
 use Rattle.arguments.specs.declared.words.WordsFault.TheVariants.{Help, Version, Usage}
 use Rattle.arguments.specs.declared.words.WordsFault.TheVariants.{NotText, BadName, Memory}
@@ -206,25 +206,25 @@ abbrev pub ReadsNone : (Words → Type 0) → Type 0
 ReadsNone how = (w : Words) → InRange w → ¬ how w
 
 -- `option` has no value, or its value isn't a name
-abbrev pub NamesNot : Text → List Row → Unread → Type 0
-NamesNot option rows lacks.Nothing = (t : Text) → ¬ (first_of option rows ≡ Some t)
-NamesNot option rows lacks.BadName = HasBadName option rows
-NamesNot option rows lacks.Memory = ⊥
+abbrev pub LacksName : Text → List Row → ValueFault → Type 0
+LacksName option rows lacks.Nothing = (t : Text) → ¬ (first_of option rows ≡ Some t)
+LacksName option rows lacks.BadName = HasBadName option rows
+LacksName option rows lacks.Memory = ⊥
 
 -- the reason why the options `rows` of `serve` aren't read
-abbrev pub ServesNot : List Row → Unread → Type 0
+abbrev pub ServesNot : List Row → ValueFault → Type 0
 ServesNot rows lacks.Nothing = ReadsNone (ReadsServe rows)
 ServesNot rows lacks.BadName = ⊥
 ServesNot rows lacks.Memory = ⊤
 
 -- the reason why the options `rows` of `report` aren't read
-abbrev pub ReportsNot : List Row → Unread → Type 0
+abbrev pub ReportsNot : List Row → ValueFault → Type 0
 ReportsNot rows lacks.Nothing = ReadsNone (ReadsReport rows)
 ReportsNot rows lacks.BadName = HasBadName (codes "batch") rows
 ReportsNot rows lacks.Memory = ⊤
 
 -- the reason why the options `rows` of `feed` aren't read
-abbrev pub FeedsNot : List Row → Unread → Type 0
+abbrev pub FeedsNot : List Row → ValueFault → Type 0
 FeedsNot rows lacks.Nothing = ReadsNone (ReadsFeed rows)
 FeedsNot rows lacks.BadName = HasBadName (codes "machine") rows ⊎ HasBadName (codes "batch") rows
 FeedsNot rows lacks.Memory = ⊥
@@ -236,7 +236,7 @@ HasBadNameIn sub =
     ⊎ ((rows : List Row) × (sub ≡ Some (codes "feed", rows)) × FeedsNot rows lacks.BadName)
 
 -- the reason why `clap`'s subcommand `sub` isn't read
-abbrev pub ReadsNot : Option (Text × List Row) → Unread → Type 0
+abbrev pub ReadsNot : Option (Text × List Row) → ValueFault → Type 0
 ReadsNot sub lacks.Nothing = ReadsNone (ReadsAs sub)
 ReadsNot sub lacks.BadName = HasBadNameIn sub
 ReadsNot sub lacks.Memory = ⊤
@@ -265,6 +265,6 @@ IsRefusal words BadName =
 IsRefusal words Memory = ⊤
 
 -- the fault if the arguments of the process can't be read, by the kind of the error
-abbrev pub unread : IoKind → WordsFault
-unread io.OutOfMemory = Memory
-unread _ = NotText
+abbrev pub fault_of_io : IoKind → WordsFault
+fault_of_io io.OutOfMemory = Memory
+fault_of_io _ = NotText

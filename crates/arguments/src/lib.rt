@@ -3,4 +3,6 @@
 
 mod words;
 
-pub use words::{FeedStart, Words, WordsFault, flag, option, read_words};
+pub use words::{
+    FeedStart, ValueFault, Words, WordsFault, flag, matches_of, name_of, option, read_words,
+};

@@ -1,18 +1,19 @@
 //! Reads the subcommand and its options from the arguments of `persod`.
 ghost use Rattle.std.specs.Prelude.{◌≡◌, ◌≤◌, ◌<◌, ◌^◌, ℕ, [], IfOk, IfErr, IfSome, IsTrue, ◌↔◌};
-ghost use Rattle.std.specs.Prelude.{None, Some, false, map};
-ghost use Rattle.clap.specs.Words.{HasKind, Kinds, app_of, fault_of, rule_of};
+ghost use Rattle.std.specs.Prelude.{None, Some, false, map, true};
+ghost use Rattle.clap.specs.Words.{HasKind, HasMatchesOf, Kinds, app_of, fault_of, rule_of};
+ghost use Rattle.clap.specs.Words.{is_simple_and_free};
 ghost use Rattle.clap.specs.declared.builder.command.Command.TheViews.{out-Command as fields_of};
 ghost use Rattle.clap.specs.Words.{found_of, rows_of, subcommand_rows_of};
 ghost use Rattle.arguments.specs.Words.{InRange, IsNumber, IsRefusal, IsRefusedBy, Means};
 ghost use Rattle.arguments.specs.Words.{ReadsAs, ReadsNot, ReadsPlan, ReadsReport, ReadsServe};
-ghost use Rattle.arguments.specs.Words.{FeedsNot, HasName, NamesNot, ReadsFeed, ReportsNot};
+ghost use Rattle.arguments.specs.Words.{FeedsNot, HasName, LacksName, ReadsFeed, ReportsNot};
 ghost use Rattle.arguments.specs.Words.{ServesNot, UsesStreams, drill_command, feed_command};
 ghost use Rattle.arguments.specs.Words.{boot_needed, flag, number_option, number_or, option};
 ghost use Rattle.arguments.specs.Words.{plan_command, port_needed, program, report_command};
 ghost use Rattle.arguments.specs.Words.{number_needed, serve_command, text_needed};
 ghost use Rattle.arguments.specs.declared.words.WordsFault.TheVariants.{Memory};
-ghost use Rattle.arguments.specs.declared.words.Unread.TheVariants as lacks;
+ghost use Rattle.arguments.specs.declared.words.ValueFault.TheVariants as lacks;
 
 use clap::builder::ValueParser;
 use clap::error::ErrorKind;
@@ -113,9 +114,9 @@ pub enum WordsFault {
 
 impl From<io::Error> for WordsFault {
     ghost use Rattle.std.specs.IoError.{error_kind};
-    ghost use Rattle.arguments.specs.Words.{unread};
+    ghost use Rattle.arguments.specs.Words.{fault_of_io};
 
-    ghost from_gives = { λ error fault. fault ≡ unread (error_kind error) };
+    ghost from_gives = { λ error fault. fault ≡ fault_of_io (error_kind error) };
 
     fn from(error: io::Error) -> WordsFault {
         if error.kind() == io::ErrorKind::OutOfMemory {
@@ -150,15 +151,38 @@ pub fn read_words<S: AsStr>(alloc: Global, words: &[S]) -> Result<Words, WordsFa
     ensures taken { IfOk result (λ _. fault_of program (map S.text words.now) ≡ []) }
     ensures refusal { IfErr result (IsRefusal (map S.text words.now)) }
 {
-    match program(alloc)?.try_get_matches_from(words) {
-        Ok(matches) => match words_of(alloc, &matches) {
-            Ok(words) => Ok(words),
-            Err(Unread::Nothing) => {
-                Err(WordsFault::Usage(String::from_str(alloc, OUT_OF_RANGE)?))
-            }
-            Err(Unread::BadName) => Err(WordsFault::BadName),
-            Err(Unread::Memory) => Err(WordsFault::Memory),
-        },
+    let matches = matches_of(alloc, program(alloc)?, words)?;
+    match words_of(alloc, &matches) {
+        Ok(words) => Ok(words),
+        Err(ValueFault::Nothing) => Err(WordsFault::Usage(String::from_str(alloc, OUT_OF_RANGE)?)),
+        Err(ValueFault::BadName) => Err(WordsFault::BadName),
+        Err(ValueFault::Memory) => Err(WordsFault::Memory),
+    }
+}
+
+/// Returns what `clap` finds in the arguments `words` of a program. `command` describes its command
+/// line.
+///
+/// # Errors
+///
+/// - `Help`, `Version`: the arguments ask for help or for the version. The text is `clap`'s.
+/// - `Usage`: `clap` refuses the arguments. The text is `clap`'s.
+/// - `Memory`: an allocation fails.
+pub fn matches_of<'a, S: AsStr>(
+    alloc: Global,
+    command: Command<'a>,
+    words: &'a [S],
+) -> Result<ArgMatches<'a>, WordsFault>
+    requires { is_simple_and_free (app_of command) ≡ true }
+    ensures matches { IfOk result (HasMatchesOf (app_of command.entry)
+        (map S.text words.entry.now)) }
+    ensures taken { IfOk result
+        (λ _. fault_of (app_of command.entry) (map S.text words.entry.now) ≡ []) }
+    ensures refused { IfErr result
+        (IsRefusedBy (fault_of (app_of command.entry) (map S.text words.entry.now))) }
+{
+    match command.try_get_matches_from(words) {
+        Ok(matches) => Ok(matches),
         Err(error) => Err(refusal_of(alloc, &error)?),
     }
 }
@@ -313,39 +337,39 @@ pub fn flag<'a>(alloc: Global, name: &'a str) -> Arg<'a>
 
 /// A reason why arguments that `clap` accepts can't be read.
 #[derive(Clone, Copy, Debug, PartialEq, Eq)]
-enum Unread {
-    /// A value is missing or out of range.
+pub enum ValueFault {
+    /// A value is missing, or isn't one of those that are allowed.
     Nothing,
-    /// The value of `--batch` or `--machine` isn't a name.
+    /// A value isn't a name.
     BadName,
     /// An allocation failed.
     Memory,
 }
 
-impl From<AllocError> for Unread {
+impl From<AllocError> for ValueFault {
     ghost from_gives = { λ _ why. why ≡ lacks.Memory };
 
-    fn from(_error: AllocError) -> Unread {
-        Unread::Memory
+    fn from(_error: AllocError) -> ValueFault {
+        ValueFault::Memory
     }
 }
 
 // Reads the subcommand that `clap` found.
-fn words_of(alloc: Global, matches: &ArgMatches<'_>) -> Result<Words, Unread>
+fn words_of(alloc: Global, matches: &ArgMatches<'_>) -> Result<Words, ValueFault>
     ensures ranges { IfOk result InRange }
     ensures meaning { IfOk result (ReadsAs (subcommand_rows_of matches.now)) }
     ensures unread { IfErr result (ReadsNot (subcommand_rows_of matches.now)) }
 {
     let Some((name, values)) = matches.subcommand() else {
-        return Err(Unread::Nothing);
+        return Err(ValueFault::Nothing);
     };
     match name {
-        "plan" => plan_of(values).ok_or(Unread::Nothing),
+        "plan" => plan_of(values).ok_or(ValueFault::Nothing),
         "drill" => Ok(Words::Drill),
         "serve" => serve_of(alloc, values),
         "report" => report_of(alloc, values),
         "feed" => feed_of(values),
-        _ => Err(Unread::Nothing),
+        _ => Err(ValueFault::Nothing),
     }
 }
 
@@ -364,19 +388,19 @@ fn plan_of(values: &ArgMatches<'_>) -> Option<Words>
 }
 
 // Reads the options of `serve`.
-fn serve_of(alloc: Global, values: &ArgMatches<'_>) -> Result<Words, Unread>
+fn serve_of(alloc: Global, values: &ArgMatches<'_>) -> Result<Words, ValueFault>
     ensures ranges { IfOk result InRange }
     ensures values { IfOk result (ReadsServe (rows_of (found_of values.now))) }
     ensures unread { IfErr result (ServesNot (rows_of (found_of values.now))) }
 {
     let Some(db) = values.get_str("db") else {
-        return Err(Unread::Nothing);
+        return Err(ValueFault::Nothing);
     };
     let Some(port) = number(values, "port", 1, 65_535) else {
-        return Err(Unread::Nothing);
+        return Err(ValueFault::Nothing);
     };
     let Some(turns) = number(values, "turns", 1, 1_000_000) else {
-        return Err(Unread::Nothing);
+        return Err(ValueFault::Nothing);
     };
     Ok(Words::Serve {
         db: String::from_str(alloc, db)?,
@@ -386,13 +410,13 @@ fn serve_of(alloc: Global, values: &ArgMatches<'_>) -> Result<Words, Unread>
 }
 
 // Reads the options of `report`.
-fn report_of(alloc: Global, values: &ArgMatches<'_>) -> Result<Words, Unread>
+fn report_of(alloc: Global, values: &ArgMatches<'_>) -> Result<Words, ValueFault>
     ensures ranges { IfOk result InRange }
     ensures values { IfOk result (ReadsReport (rows_of (found_of values.now))) }
     ensures unread { IfErr result (ReportsNot (rows_of (found_of values.now))) }
 {
     let Some(db) = values.get_str("db") else {
-        return Err(Unread::Nothing);
+        return Err(ValueFault::Nothing);
     };
     let batch = name_of(values, "batch")?;
     Ok(Words::Report {
@@ -402,16 +426,16 @@ fn report_of(alloc: Global, values: &ArgMatches<'_>) -> Result<Words, Unread>
 }
 
 // Reads the options of `feed`.
-fn feed_of(values: &ArgMatches<'_>) -> Result<Words, Unread>
+fn feed_of(values: &ArgMatches<'_>) -> Result<Words, ValueFault>
     ensures ranges { IfOk result InRange }
     ensures values { IfOk result (ReadsFeed (rows_of (found_of values.now))) }
     ensures unread { IfErr result (FeedsNot (rows_of (found_of values.now))) }
 {
     let Some(port) = number(values, "port", 1, 65_535) else {
-        return Err(Unread::Nothing);
+        return Err(ValueFault::Nothing);
     };
     let Some(boot) = number(values, "boot", 1, 9_999_999_999) else {
-        return Err(Unread::Nothing);
+        return Err(ValueFault::Nothing);
     };
     let machine = name_of(values, "machine")?;
     let batch = name_of(values, "batch")?;
@@ -424,16 +448,21 @@ fn feed_of(values: &ArgMatches<'_>) -> Result<Words, Unread>
     Ok(Words::Feed { port, start })
 }
 
-// Reads the value of `option` as a name.
-fn name_of(values: &ArgMatches<'_>, option: &str) -> Result<Name, Unread>
+/// Returns the value of the option `option` as a name.
+///
+/// # Errors
+///
+/// - `Nothing`: the option has no value.
+/// - `BadName`: its value isn't a name.
+pub fn name_of(values: &ArgMatches<'_>, option: &str) -> Result<Name, ValueFault>
     ensures name { IfOk result (HasName option.now (rows_of (found_of values.now))) }
-    ensures unread { IfErr result (NamesNot option.now (rows_of (found_of values.now))) }
+    ensures unread { IfErr result (LacksName option.now (rows_of (found_of values.now))) }
 {
     let Some(text) = values.get_str(option) else {
-        return Err(Unread::Nothing);
+        return Err(ValueFault::Nothing);
     };
     let Some(name) = Name::new(text.as_bytes()) else {
-        return Err(Unread::BadName);
+        return Err(ValueFault::BadName);
     };
     Ok(name)
 }

@@ -10,7 +10,8 @@ use Rattle.job_facts.specs.Facts.{Batch, Facts, Session}
 use Rattle.job_facts.specs.States.{is_in}
 use Rattle.job_facts.specs.Accounts.{batch_totals, session_states, totals_by}
 use Rattle.table_rows.specs.Tables.{HaveSameRows, StoredBatch, StoredBlank, StoredLot, StoredRecord, StoredRemake, StoredSession, Tables}
-use Rattle.image_laws.specs.Image.{batch_by, batches_by_id, groupings_in, image, name_of, records_in, remakes_at, remakes_in, stored_batch, stored_batches, stored_blank, stored_blanks, stored_groupings, stored_lot, stored_lots, stored_record, stored_records, stored_remakes, stored_session, stored_sessions, stored_words, words_in}
+use Rattle.image_laws.specs.Image.{batch_by, batches_by_id, groupings_in, image, name_of, records_in, remakes_at, remakes_in, stored_batch, stored_batches, stored_blank, stored_blanks}
+use Rattle.image_laws.specs.Image.{stored_groupings, stored_lot, stored_lots, stored_record, stored_records, stored_remakes, stored_session, stored_sessions, stored_words, words_in}
 use Rattle.image_laws.proofs.Lists.{flat_map_same, unmoved}
 use Rattle.image_laws.proofs.Places.{map_joined}
 use Rattle.image_laws.proofs.Staying.{totals_are}

@@ -1,5 +1,5 @@
 -- A list is compared with a mapped list, element by element.
-use Rattle.std.proofs.Common.{◌≡◌, ℕ, zero, suc, ◌+◌, ◌<◌, ◌≤◌, Bool, true, false, cond, List, [], ◌∷◌, ◌++◌, append-nil, length, take, get_or, map, All, refl, sym, ap, ◌∙◌, subst, arith, inl, inr}
+use Rattle.std.proofs.Common.{◌≡◌, ℕ, zero, suc, ◌+◌, ◌<◌, ◌≤◌, Bool, true, cond, List, [], ◌∷◌, ◌++◌, length, take, get_or, map, All, refl, sym, ap, ◌∙◌, subst, arith, inl, inr}
 use Rattle.std.specs.Prelude.{AllPairs, filter}
 use Rattle.std.proofs.lemmas.Bool.{cases_lt}
 use Rattle.std.proofs.lemmas.List.{get_or-take, get_or_default, length-map, length-take, map-append, map-id, same_lists, take_all, take_more}
@@ -18,9 +18,6 @@ module _ {X Y : Type 0} (f : X → Y) (xs : List X) (ys : List Y) where
 
   abbrev pub AreSameBelow : ℕ → Type 0
   AreSameBelow i = (k : ℕ) → k < i → IsSameAt k
-
-  pub same_none : AreSameBelow 0
-  same_none = λ k below. absurd (omega arith)
 
   pub same_more : (i : ℕ) → AreSameBelow i → IsSameAt i → AreSameBelow (i + 1)
   same_more i below here = λ k within. elim (cases_lt k i) [
@@ -96,6 +93,3 @@ module _ {X Y : Type 0} (f : X → Y) (p : X → Bool) (xs : List X) (i : ℕ) (
 
   pub kept_more : p x ≡ true → map f (filter p (take i xs)) ++ f x ∷ [] ≡ map f (filter p (take (i + 1) xs))
   kept_more passes = sym (ap (map f) (one_more ∙ ap (λ b. filter p (take i xs) ++ cond b (x ∷ []) []) passes) ∙ map-append f (filter p (take i xs)) (x ∷ []))
-
-  pub kept_less : p x ≡ false → map f (filter p (take i xs)) ≡ map f (filter p (take (i + 1) xs))
-  kept_less fails = sym (ap (map f) (one_more ∙ ap (λ b. filter p (take i xs) ++ cond b (x ∷ []) []) fails ∙ append-nil (filter p (take i xs))))

@@ -1,6 +1,6 @@
 -- The results of checks that return `true` if and only if a condition holds.
-use Rattle.std.proofs.Common.{◌≡◌, Bool, true, false, not, is_some, Option, None, Some, Result, Ok, Err, refl, sym, subst, ◌∙◌}
-use Rattle.std.specs.Prelude.{IfOk, IfSome}
+use Rattle.std.proofs.Common.{◌≡◌, Bool, true, false, Result, Ok, Err, refl, sym, subst}
+use Rattle.std.specs.Prelude.{IfOk}
 use Rattle.std.proofs.lemmas.Bool.{false≢true}
 
 -- The condition doesn't hold, so the result is `false`; in `granted` it holds.
@@ -9,20 +9,6 @@ refused none = (λ e. absurd (false≢true e), λ p. absurd (none p))
 
 pub granted : {P : Type 0} → P → (true ≡ true → P) × (P → true ≡ true)
 granted p = (λ e. p, λ q. refl)
-
--- The insertion into a set returns `true` if and only if the element is new.
-pub was_added : (known added : Bool) → added ≡ not known → added ≡ true → known ≡ false
-was_added true added is passes = sym (sym is ∙ passes)
-was_added false added is passes = refl
-
-pub not_added : (known added : Bool) → added ≡ not known → added ≡ false → known ≡ true
-not_added true added is fails = refl
-not_added false added is fails = sym (sym is ∙ fails)
-
--- The result is `true` if and only if the look-up finds an element.
-pub there_or_not : {S P : Type 0} (o : Option S) (r : Bool) → r ≡ is_some o → IfSome o (λ s. P) → (o ≡ None → P → ⊥) → (r ≡ true → P) × (P → r ≡ true)
-there_or_not None r is there missing = (λ passes. absurd (false≢true (sym is ∙ passes)), λ p. absurd (missing refl p))
-there_or_not (Some s) r is there missing = (λ passes. there, λ p. is)
 
 -- The check of `A` is a check of an equivalent condition `B`.
 pub test_as : {E A B : Type 0} (r : Result Bool E) → (A → B) → (B → A) → IfOk r (λ sound. (sound ≡ true → A) × (A → sound ≡ true)) → IfOk r (λ sound. (sound ≡ true → B) × (B → sound ≡ true))

@@ -1,5 +1,5 @@
 -- The values of options with a text and of flags, and the meaning of a missing value.
-use Rattle.std.proofs.Common.{◌≡◌, ◌∙◌, Bool, List, true, false, if◌then◌else◌, refl, codes, Option, None, Some, sym, ap, option_map}
+use Rattle.std.proofs.Common.{◌≡◌, ◌∙◌, Bool, List, true, false, refl, codes, Option, None, Some, sym, ap, option_map}
 use Rattle.std.specs.Prelude.{IfSome}
 use Rattle.std.specs.Borrow.{Bor}
 use Rattle.std.specs.Str.Parse.{ParsesBool}
@@ -7,8 +7,7 @@ use Rattle.clap.specs.Words.{Row, Text, first_of, first_value, one_text, rows_of
 use Rattle.clap.specs.Matches.{ReadsOne}
 use Rattle.clap.specs.declared.parser.matches.Found.{Found}
 use Rattle.clap.proofs.WalkLemmas.{first_value-rows, one_text-rows}
-use Rattle.store_data.specs.Name.{is_name}
-use Rattle.arguments.specs.Words.{HasBadName, HasName, IsFlag}
+use Rattle.arguments.specs.Words.{IsFlag}
 use Rattle.book_lines.specs.Blanks.{state_word}
 use Rattle.book_lines.specs.declared.blank_state.BlankState.{BlankState}
 use Rattle.book_arguments.specs.Words.{HasState}
@@ -31,23 +30,6 @@ pub no_state : (rows : List Row) (word : Text) → first_of (codes "state") rows
     → (state : Option BlankState) → HasState rows state → ⊥
 no_state rows word there none None has = let bad : None ≡ Some word = sym has ∙ there in cc
 no_state rows word there none (Some state) has = none state (let same : Some word ≡ Some (state_word state) = sym there ∙ has in cc)
-
--- ---- a name
-
-module _ (rows : List Row) (option : Text) where
-  pub named : (t : Text) (o : Option Text) (x : Text) → first_of option rows ≡ Some t → o ≡ (if is_name t then Some t else None) → o ≡ Some x → HasName option rows x
-  named t o x there made some = by (is_name t) refl (sym some ∙ made)
-    where
-      by : (b : Bool) → is_name t ≡ b → Some x ≡ (if b then Some t else None) → HasName option rows x
-      by true is same = let x_is : x ≡ t = cc in (rw x_is there, rw x_is is)
-      by false is same = cc
-
-  pub unnamed : (t : Text) (o : Option Text) → first_of option rows ≡ Some t → o ≡ (if is_name t then Some t else None) → o ≡ None → HasBadName option rows
-  unnamed t o there made none = by (is_name t) refl (sym none ∙ made)
-    where
-      by : (b : Bool) → is_name t ≡ b → None ≡ (if b then Some t else None) → HasBadName option rows
-      by true is same = cc
-      by false is same = (t, there, is)
 
 -- ---- a flag
 

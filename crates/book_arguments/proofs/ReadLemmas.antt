@@ -3,12 +3,13 @@ use Rattle.std.proofs.Common.{◌≡◌, ◌≢◌, ◌∙◌, Bool, true, false
 use Rattle.std.specs.Prelude.{IfSome, bytes_eq}
 use Rattle.clap.specs.Words.{Row, Text, first_of}
 use Rattle.arguments.specs.Words.{IsFlag}
-use Rattle.book_arguments.specs.Words.{Asks, AsksNot, HasState, IsForm, LacksName, LacksState}
+use Rattle.arguments.specs.Words.{LacksName}
+use Rattle.book_arguments.specs.Words.{Asks, AsksNot, HasState, IsForm, LacksState}
 use Rattle.book_lines.specs.declared.blank_state.BlankState.{BlankState}
 use Rattle.book_arguments.specs.declared.words.Ask.{Ask}
 use Rattle.book_arguments.specs.declared.words.Ask.TheVariants.{Check, Lists, Cards, Blanks, Machines, Sheet}
-use Rattle.book_arguments.specs.declared.words.Unread.{Unread}
-use Rattle.book_arguments.specs.declared.words.Unread.TheVariants as lacks
+use Rattle.arguments.specs.declared.words.ValueFault.{ValueFault}
+use Rattle.arguments.specs.declared.words.ValueFault.TheVariants as lacks
 
 -- Two texts are different if `bytes_eq` distinguishes them.
 distinct : (a b : Text) → bytes_eq a a ≡ true → bytes_eq a b ≡ false → a ≡ b → ⊥
@@ -49,22 +50,22 @@ module _ (rows : List Row) where
   no_sheet none Machines asks = distinct (codes "sheet") (codes "machines") refl refl asks.0
   no_sheet none (Sheet batch) asks = none batch asks.1.0
 
-  pub without_product : (why : Unread) → LacksName (codes "product") rows why → AsksNot (codes "blanks") rows why
+  pub without_product : (why : ValueFault) → LacksName (codes "product") rows why → AsksNot (codes "blanks") rows why
   without_product lacks.Nothing none = no_product none
   without_product lacks.BadName bad = inl (refl, bad)
   without_product lacks.Memory never = never
 
-  pub without_state : (why : Unread) → LacksState rows why → AsksNot (codes "blanks") rows why
+  pub without_state : (why : ValueFault) → LacksState rows why → AsksNot (codes "blanks") rows why
   without_state lacks.Nothing none = no_state none
   without_state lacks.BadName never = absurd never
   without_state lacks.Memory never = never
 
-  pub cards_without_batch : (why : Unread) → LacksName (codes "batch") rows why → AsksNot (codes "cards") rows why
+  pub cards_without_batch : (why : ValueFault) → LacksName (codes "batch") rows why → AsksNot (codes "cards") rows why
   cards_without_batch lacks.Nothing none = no_cards none
   cards_without_batch lacks.BadName bad = inr (inl refl, bad)
   cards_without_batch lacks.Memory never = never
 
-  pub sheet_without_batch : (why : Unread) → LacksName (codes "batch") rows why → AsksNot (codes "sheet") rows why
+  pub sheet_without_batch : (why : ValueFault) → LacksName (codes "batch") rows why → AsksNot (codes "sheet") rows why
   sheet_without_batch lacks.Nothing none = no_sheet none
   sheet_without_batch lacks.BadName bad = inr (inr refl, bad)
   sheet_without_batch lacks.Memory never = never
@@ -72,10 +73,10 @@ module _ (rows : List Row) where
   -- ---- a subcommand by its name
 
   -- A result for the text `word` is also a result for `name` if the two texts are equal.
-  pub asked_as : (name word : Text) → name ≡ word → (r : Result Ask Unread) → IfOk r (Asks word rows) → IfOk r (Asks name rows)
+  pub asked_as : (name word : Text) → name ≡ word → (r : Result Ask ValueFault) → IfOk r (Asks word rows) → IfOk r (Asks name rows)
   asked_as name word is r asks = subst (λ (n : Text). IfOk r (Asks n rows)) (sym is) asks
 
-  pub unread_as : (name word : Text) → name ≡ word → (r : Result Ask Unread) → IfErr r (AsksNot word rows) → IfErr r (AsksNot name rows)
+  pub unread_as : (name word : Text) → name ≡ word → (r : Result Ask ValueFault) → IfErr r (AsksNot word rows) → IfErr r (AsksNot name rows)
   unread_as name word is r not = subst (λ (n : Text). IfErr r (AsksNot n rows)) (sym is) not
 
   -- ---- the output form

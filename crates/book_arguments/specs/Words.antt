@@ -14,8 +14,8 @@ use Rattle.book_lines.specs.declared.blank_state.BlankState.{BlankState}
 use Rattle.book_arguments.specs.declared.words.Ask.{Ask}
 use Rattle.book_arguments.specs.declared.words.Ask.TheVariants.{Check, Lists, Cards, Blanks, Machines, Sheet}
 use Rattle.book_arguments.specs.declared.words.BookWords.{BookWords}
-use Rattle.book_arguments.specs.declared.words.Unread.{Unread}
-use Rattle.book_arguments.specs.declared.words.Unread.TheVariants as lacks
+use Rattle.arguments.specs.declared.words.ValueFault.{ValueFault}
+use Rattle.arguments.specs.declared.words.ValueFault.TheVariants as lacks
 
 -- ---- the command
 
@@ -104,14 +104,8 @@ Means words = ReadsAs (subcommand_of program words)
 
 -- ---- the refusals
 
--- `option` has no value, or its value isn't a name
-abbrev pub LacksName : Text → List Row → Unread → Type 0
-LacksName option rows lacks.Nothing = (t : Text) → ¬ (first_of option rows ≡ Some t)
-LacksName option rows lacks.BadName = HasBadName option rows
-LacksName option rows lacks.Memory = ⊥
-
 -- the value of `--state` isn't a state
-abbrev pub LacksState : List Row → Unread → Type 0
+abbrev pub LacksState : List Row → ValueFault → Type 0
 LacksState rows lacks.Nothing = (state : Option BlankState) → ¬ HasState rows state
 LacksState rows lacks.BadName = ⊥
 LacksState rows lacks.Memory = ⊥
@@ -125,19 +119,19 @@ abbrev pub NamesBadly : Text → List Row → Type 0
 NamesBadly name rows = ((name ≡ codes "blanks") × HasBadName (codes "product") rows) ⊎ (IsOfBatch name × HasBadName (codes "batch") rows)
 
 -- the reason why the subcommand's own options aren't read
-abbrev pub AsksNot : Text → List Row → Unread → Type 0
+abbrev pub AsksNot : Text → List Row → ValueFault → Type 0
 AsksNot name rows lacks.Nothing = (ask : Ask) → ¬ Asks name rows ask
 AsksNot name rows lacks.BadName = NamesBadly name rows
 AsksNot name rows lacks.Memory = ⊥
 
 -- the reason why the subcommand `name` with the options `rows` isn't read
-abbrev pub IsUnread : Text → List Row → Unread → Type 0
+abbrev pub IsUnread : Text → List Row → ValueFault → Type 0
 IsUnread name rows lacks.Nothing = (w : BookWords) → ¬ Reads name rows w
 IsUnread name rows lacks.BadName = NamesBadly name rows
 IsUnread name rows lacks.Memory = ⊤
 
 -- the reason why `clap`'s subcommand `sub` isn't read
-abbrev pub ReadsNot : Option (Text × List Row) → Unread → Type 0
+abbrev pub ReadsNot : Option (Text × List Row) → ValueFault → Type 0
 ReadsNot sub lacks.Nothing = (w : BookWords) → ¬ ReadsAs sub w
 ReadsNot sub lacks.BadName = (name : Text) × ((rows : List Row) × (sub ≡ Some (name, rows)) × IsUnread name rows lacks.BadName)
 ReadsNot sub lacks.Memory = ⊤

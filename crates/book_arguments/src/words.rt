@@ -1,20 +1,17 @@
 //! Reads the subcommand, the path and the output form from the arguments of `shopbook`.
 ghost use Rattle.std.specs.Prelude.{◌≡◌, [], Bool, IfErr, IfOk, IfSome, None, codes, map};
-ghost use Rattle.clap.specs.Words.{HasKind, Kinds, fault_of, found_of, rows_of};
+ghost use Rattle.clap.specs.Words.{fault_of, found_of, rows_of};
 ghost use Rattle.clap.specs.Words.{subcommand_rows_of};
-ghost use Rattle.arguments.specs.Words.{HasName, IsRefusedBy};
 ghost use Rattle.book_lines.specs.Blanks.{state_word};
 ghost use Rattle.book_lines.specs.declared.blank_state.BlankState.{BlankState as StateValue};
 ghost use Rattle.book_arguments.specs.Words.{Asks, AsksNot, HasState, IsForm, IsRefusal};
-ghost use Rattle.book_arguments.specs.Words.{IsUnread, LacksName, LacksState, Means, Reads};
+ghost use Rattle.book_arguments.specs.Words.{IsUnread, LacksState, Means, Reads};
 ghost use Rattle.book_arguments.specs.Words.{ReadsAs, ReadsNot, program};
-ghost use Rattle.book_arguments.specs.declared.words.Unread.TheVariants as lacks;
 
 use crate::commands::program;
-use arguments::WordsFault;
+use arguments::{ValueFault, WordsFault, matches_of, name_of};
 use book_lines::BlankState;
-use clap::error::ErrorKind;
-use clap::{ArgMatches, Error};
+use clap::ArgMatches;
 use std::alloc::{AllocError, Global};
 use std::convert::AsStr;
 use store_data::Name;
@@ -68,14 +65,12 @@ pub fn read_book_words<S: AsStr>(alloc: Global, words: &[S]) -> Result<BookWords
     ensures taken { IfOk result (λ _. fault_of program (map S.text words.now) ≡ []) }
     ensures refusal { IfErr result (IsRefusal (map S.text words.now)) }
 {
-    match program(alloc)?.try_get_matches_from(words) {
-        Ok(matches) => match words_of(alloc, &matches) {
-            Ok(words) => Ok(words),
-            Err(Unread::Nothing) => Err(WordsFault::Usage(bad_state(alloc, &matches)?)),
-            Err(Unread::BadName) => Err(WordsFault::BadName),
-            Err(Unread::Memory) => Err(WordsFault::Memory),
-        },
-        Err(error) => Err(refusal_of(alloc, &error)?),
+    let matches = matches_of(alloc, program(alloc)?, words)?;
+    match words_of(alloc, &matches) {
+        Ok(words) => Ok(words),
+        Err(ValueFault::Nothing) => Err(WordsFault::Usage(bad_state(alloc, &matches)?)),
+        Err(ValueFault::BadName) => Err(WordsFault::BadName),
+        Err(ValueFault::Memory) => Err(WordsFault::Memory),
     }
 }
 
@@ -91,47 +86,28 @@ fn bad_state(alloc: Global, matches: &ArgMatches<'_>) -> Result<String, AllocErr
     )
 }
 
-/// A reason why arguments that `clap` accepts can't be read.
-#[derive(Clone, Copy, Debug, PartialEq, Eq)]
-enum Unread {
-    /// A value is missing, or the state isn't one.
-    Nothing,
-    /// The value of `--batch` or `--product` isn't a name.
-    BadName,
-    /// An allocation failed.
-    Memory,
-}
-
-impl From<AllocError> for Unread {
-    ghost from_gives = { λ _ why. why ≡ lacks.Memory };
-
-    fn from(_error: AllocError) -> Unread {
-        Unread::Memory
-    }
-}
-
 // Reads the subcommand that `clap` found.
-fn words_of(alloc: Global, matches: &ArgMatches<'_>) -> Result<BookWords, Unread>
+fn words_of(alloc: Global, matches: &ArgMatches<'_>) -> Result<BookWords, ValueFault>
     ensures meaning { IfOk result (ReadsAs (subcommand_rows_of matches.now)) }
     ensures unread { IfErr result (ReadsNot (subcommand_rows_of matches.now)) }
 {
     match matches.subcommand() {
-        None => Err(Unread::Nothing),
+        None => Err(ValueFault::Nothing),
         Some((name, values)) => read(alloc, name, values),
     }
 }
 
 // Reads the options of the subcommand `name`.
-fn read(alloc: Global, name: &str, values: &ArgMatches<'_>) -> Result<BookWords, Unread>
+fn read(alloc: Global, name: &str, values: &ArgMatches<'_>) -> Result<BookWords, ValueFault>
     ensures meaning { IfOk result (Reads name.now (rows_of (found_of values.now))) }
     ensures unread { IfErr result (IsUnread name.now (rows_of (found_of values.now))) }
 {
     let ask = ask_of(name, values)?;
     let Some(db) = values.get_str("db") else {
-        return Err(Unread::Nothing);
+        return Err(ValueFault::Nothing);
     };
     let Some(json) = json_of(name, values) else {
-        return Err(Unread::Nothing);
+        return Err(ValueFault::Nothing);
     };
     let db = String::from_str(alloc, db)?;
     Ok(BookWords { ask, db, json })
@@ -150,7 +126,7 @@ fn json_of(name: &str, values: &ArgMatches<'_>) -> Option<bool>
 }
 
 // Reads the options of the subcommand `name`, except `--db` and `--json`.
-fn ask_of(name: &str, values: &ArgMatches<'_>) -> Result<Ask, Unread>
+fn ask_of(name: &str, values: &ArgMatches<'_>) -> Result<Ask, ValueFault>
     ensures meaning { IfOk result (Asks name.now (rows_of (found_of values.now))) }
     ensures unread { IfErr result (AsksNot name.now (rows_of (found_of values.now))) }
 {
@@ -161,12 +137,12 @@ fn ask_of(name: &str, values: &ArgMatches<'_>) -> Result<Ask, Unread>
         "blanks" => blanks_of(values),
         "machines" => Ok(Ask::Machines),
         "sheet" => sheet_of(values),
-        _ => Err(Unread::Nothing),
+        _ => Err(ValueFault::Nothing),
     }
 }
 
 // Reads the options of `cards`.
-fn cards_of(values: &ArgMatches<'_>) -> Result<Ask, Unread>
+fn cards_of(values: &ArgMatches<'_>) -> Result<Ask, ValueFault>
     ensures meaning { IfOk result (Asks (codes "cards") (rows_of (found_of values.now))) }
     ensures unread { IfErr result (AsksNot (codes "cards") (rows_of (found_of values.now))) }
 {
@@ -175,7 +151,7 @@ fn cards_of(values: &ArgMatches<'_>) -> Result<Ask, Unread>
 }
 
 // Reads the options of `blanks`.
-fn blanks_of(values: &ArgMatches<'_>) -> Result<Ask, Unread>
+fn blanks_of(values: &ArgMatches<'_>) -> Result<Ask, ValueFault>
     ensures meaning { IfOk result (Asks (codes "blanks") (rows_of (found_of values.now))) }
     ensures unread { IfErr result (AsksNot (codes "blanks") (rows_of (found_of values.now))) }
 {
@@ -185,7 +161,7 @@ fn blanks_of(values: &ArgMatches<'_>) -> Result<Ask, Unread>
 }
 
 // Reads the options of `sheet`.
-fn sheet_of(values: &ArgMatches<'_>) -> Result<Ask, Unread>
+fn sheet_of(values: &ArgMatches<'_>) -> Result<Ask, ValueFault>
     ensures meaning { IfOk result (Asks (codes "sheet") (rows_of (found_of values.now))) }
     ensures unread { IfErr result (AsksNot (codes "sheet") (rows_of (found_of values.now))) }
 {
@@ -193,29 +169,15 @@ fn sheet_of(values: &ArgMatches<'_>) -> Result<Ask, Unread>
     Ok(Ask::Sheet { batch })
 }
 
-// Reads the value of `option` as a name.
-fn name_of(values: &ArgMatches<'_>, option: &str) -> Result<Name, Unread>
-    ensures name { IfOk result (HasName option.now (rows_of (found_of values.now))) }
-    ensures unread { IfErr result (LacksName option.now (rows_of (found_of values.now))) }
-{
-    match values.get_str(option) {
-        None => Err(Unread::Nothing),
-        Some(text) => match Name::new(text.as_bytes()) {
-            None => Err(Unread::BadName),
-            Some(name) => Ok(name),
-        },
-    }
-}
-
 // Reads `--state`, if it is given.
-fn state_of(values: &ArgMatches<'_>) -> Result<Option<BlankState>, Unread>
+fn state_of(values: &ArgMatches<'_>) -> Result<Option<BlankState>, ValueFault>
     ensures state { IfOk result (HasState (rows_of (found_of values.now))) }
     ensures unread { IfErr result (LacksState (rows_of (found_of values.now))) }
 {
     match values.get_str("state") {
         None => Ok(None),
         Some(word) => match state_named(word) {
-            None => Err(Unread::Nothing),
+            None => Err(ValueFault::Nothing),
             Some(state) => Ok(Some(state)),
         },
     }
@@ -233,23 +195,4 @@ fn state_named(word: &str) -> Option<BlankState>
         "discarded" => Some(BlankState::Discarded),
         _ => None,
     }
-}
-
-// Returns the fault for an error of `clap`.
-fn refusal_of(alloc: Global, error: &Error) -> Result<WordsFault, AllocError>
-    ensures { IfOk result (λ fault. (kinds : Kinds) → HasKind kinds error.now
-        → IsRefusedBy kinds fault) }
-{
-    let kind = error.kind();
-    if kind == ErrorKind::OutOfMemory {
-        return Ok(WordsFault::Memory);
-    }
-    let text = format!(in alloc; "{error}")?;
-    Ok(if kind == ErrorKind::DisplayHelp {
-        WordsFault::Help(text)
-    } else if kind == ErrorKind::DisplayVersion {
-        WordsFault::Version(text)
-    } else {
-        WordsFault::Usage(text)
-    })
 }

@@ -1,13 +1,15 @@
 //! Rows keyed by a number, for look-ups by binary search.
 ghost use Rattle.std.specs.Prelude.{◌≡◌, ◌∷◌, [], ℕ, IfOk, List, filter, map, option_map};
-ghost use Rattle.std.specs.Prelude.{slice_get};
+ghost use Rattle.std.specs.Prelude.{find, slice_get};
 ghost use Rattle.audit_laws.specs.Audited.{is_session_of};
 ghost use Rattle.std.specs.List.Sorted.{IsNonDecreasingBy};
+ghost use Rattle.job_facts.specs.States.{same_session_state};
 ghost use Rattle.table_rows.specs.Tables.{StoredSession as SessionValue};
 ghost use Rattle.book_lines.specs.Blanks.{session_on};
 ghost use Rattle.book_lines.specs.Keyed.{AreKeyed};
 
 use audit_order::{InOrder, Ranged, range_of, sort_rows};
+use job_facts::SessionState;
 use std::alloc::{AllocError, Global};
 use std::marker::Model;
 use table_rows::StoredSession;
@@ -143,4 +145,25 @@ fn first_row<'a>(keyed: &[Keyed<'a, StoredSession>]) -> Option<&'a StoredSession
         None => None,
         Some(first) => Some(first.row),
     }
+}
+
+/// Returns the first session in `sessions` with the state `state`, if there is one.
+pub(crate) fn first_with<'a>(
+    sessions: &[Keyed<'a, StoredSession>],
+    state: SessionState,
+) -> Option<&'a StoredSession>
+    ensures { option_map (λ s. s.now) result ≡ option_map (λ (k : ℕ × SessionValue). k.1)
+        (find (λ (k : ℕ × SessionValue). same_session_state state k.1.state) sessions.now) }
+{
+    match sessions.iter().find(|session| has_state(session, state)) {
+        None => None,
+        Some(session) => Some(session.row),
+    }
+}
+
+fn has_state(session: &Keyed<'_, StoredSession>, state: SessionState) -> bool
+    ensures { result ≡ same_session_state state session.now.1.state }
+{
+    let row = session.row;
+    state == row.state
 }

@@ -13,7 +13,7 @@ ghost use Rattle.book_lines.specs.Machines.{machine_line, machines_text};
 use crate::by_client::{ByClient, by_client};
 use crate::cell::{number, optional, optional_digits, word};
 use crate::form::Form;
-use crate::keyed::Keyed;
+use crate::keyed::{Keyed, first_with};
 use crate::line::push_line;
 use audit_order::range_of;
 use job_facts::SessionState;
@@ -97,25 +97,8 @@ fn running_in(sessions: &[Keyed<'_, StoredSession>]) -> Option<u64>
     ensures { result ≡ option_map (λ (k : ℕ × SessionValue). k.1.id)
         (find (λ (k : ℕ × SessionValue). is_running k.1.state) sessions.now) }
 {
-    let session = running_one(sessions)?;
+    let session = first_with(sessions, SessionState::Running)?;
     Some(session.id)
-}
-
-fn running_one<'a>(sessions: &[Keyed<'a, StoredSession>]) -> Option<&'a StoredSession>
-    ensures { option_map (λ s. s.now) result ≡ option_map (λ (k : ℕ × SessionValue). k.1)
-        (find (λ (k : ℕ × SessionValue). is_running k.1.state) sessions.now) }
-{
-    match sessions.iter().find(|session| is_running(session)) {
-        None => None,
-        Some(session) => Some(session.row),
-    }
-}
-
-fn is_running(session: &Keyed<'_, StoredSession>) -> bool
-    ensures { result ≡ is_running session.now.1.state }
-{
-    let row = session.row;
-    matches!(row.state, SessionState::Running)
 }
 
 // Returns the first release mark in `marks`.

@@ -17,7 +17,7 @@ ghost use Rattle.book_lines.specs.Book.{IsBook};
 ghost use Rattle.book_lines.specs.Keyed.{AreKeyed};
 ghost use Rattle.book_lines.specs.Report.{batch_report, report_of};
 
-use crate::keyed::{Keyed, by_place};
+use crate::keyed::{Keyed, by_place, first_with};
 use crate::lists::records;
 use audit_order::range_of;
 use job_facts::{BatchRow, BatchTotals, RecordLine, SessionState};
@@ -141,24 +141,6 @@ fn good_serial(sessions: &[Keyed<'_, StoredSession>]) -> Option<u64>
     ensures { result ≡ option_map (λ (k : ℕ × SessionValue). k.1.serial)
         (find (λ (k : ℕ × SessionValue). is_good k.1.state) sessions.now) }
 {
-    let session = good_one(sessions)?;
+    let session = first_with(sessions, SessionState::Good)?;
     Some(session.serial)
-}
-
-// Returns the good session in `sessions`, if there is one.
-fn good_one<'a>(sessions: &[Keyed<'a, StoredSession>]) -> Option<&'a StoredSession>
-    ensures { option_map (λ s. s.now) result ≡ option_map (λ (k : ℕ × SessionValue). k.1)
-        (find (λ (k : ℕ × SessionValue). is_good k.1.state) sessions.now) }
-{
-    match sessions.iter().find(|session| is_good(session)) {
-        None => None,
-        Some(session) => Some(session.row),
-    }
-}
-
-fn is_good(session: &Keyed<'_, StoredSession>) -> bool
-    ensures { result ≡ is_good session.now.1.state }
-{
-    let row = session.row;
-    matches!(row.state, SessionState::Good)
 }

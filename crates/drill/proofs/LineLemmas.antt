@@ -5,8 +5,7 @@ use Rattle.feeder.specs.declared.world.Stop.{Stop}
 use Rattle.drill.specs.declared.sent.Packet.{Packet}
 use Rattle.drill.specs.Floors.{Floor, packet_at}
 use Rattle.drill.specs.declared.delivery.Delivery.{Delivery}
-use Rattle.drill.specs.Scripts.{asked}
-use Rattle.drill.specs.Steps.{Asks, AsksBy, Brings, Delivers, Did}
+use Rattle.drill.specs.Steps.{AsksBy, Brings, Delivers, Did}
 
 -- A delivery that names packet `p` has the effect of delivering `p`.
 pub delivers_by : {S : Type 0} (state : S → State) (old new : S) (fl : Floor) (d : Delivery) (stop : Stop) (p : Packet) (did : Option Did) → d.stop ≡ stop → packet_at fl d.packet ≡ Some p
@@ -14,7 +13,7 @@ pub delivers_by : {S : Type 0} (state : S → State) (old new : S) (fl : Floor) 
 delivers_by state old new fl d stop p did is there brings =
     subst (λ x. Brings state old new fl x (packet_at fl d.packet) did) (sym is) (subst (λ o. Brings state old new fl stop o did) (sym there) brings)
 
--- A line that sends a request has the effect of serving its message.
-pub asks_by : {S : Type 0} (state : S → State) (old new : S) (fl : Floor) (text : List ℕ) (behind : List (List ℕ)) (message : List ℕ) (left : List (List ℕ)) (did : Option Did)
-    → asked text behind ≡ Some (message, left) → AsksBy state old new fl behind (Some (message, left)) did → Asks state old new fl text behind did
-asks_by state old new fl text behind message left did is asks = subst (λ o. AsksBy state old new fl behind o did) (sym is) asks
+-- A request has the effect of serving its message.
+pub asks_by : {S : Type 0} (state : S → State) (old new : S) (fl : Floor) (behind : List (List ℕ)) (asked : Option (List ℕ × List (List ℕ))) (message : List ℕ) (left : List (List ℕ)) (did : Option Did)
+    → asked ≡ Some (message, left) → AsksBy state old new fl behind (Some (message, left)) did → AsksBy state old new fl behind asked did
+asks_by state old new fl behind asked message left did is asks = subst (λ o. AsksBy state old new fl behind o did) (sym is) asks

@@ -18,7 +18,7 @@ use Rattle.drill.specs.Floors.{Floor, empty_floor}
 use Rattle.drill.specs.declared.stop.DrillStop.{DrillStop}
 use Rattle.drill.specs.declared.stop.DrillStop.TheVariants as stop
 use Rattle.drill.specs.Steps.{Did, Steps}
-use Rattle.drill.specs.Ends.{AreDone, Done, DrillsOver, EndsAt, Goes, GoesOn, IsWritten, Runs, RunsAll, printed, unopened, unread}
+use Rattle.drill.specs.Ends.{AreDone, Done, DrillsOver, Goes, GoesOn, IsWritten, Runs, printed, unopened, unread}
 use Rattle.drill.proofs.ScriptLemmas.{here, text_of}
 
 -- ---- lines after other lines
@@ -148,18 +148,6 @@ line_unopened state usable s served fl count l behind did a b fault.Full step wr
 agrees_some : (known : Option (List ℕ)) → Agrees known (unwrap_or known [])
 agrees_some None = tt
 agrees_some (Some all) = refl
-
-never_unread : {S : Type 0} (state : S → State) (s : S) (fl : Floor) (count : ℕ) (left : List (List ℕ)) (ended_in : Option Did) → EndsAt state s fl count left ended_in (Err stop.ReadFailed) → ⊥
-never_unread state s fl count left None ends = ends
-never_unread state s fl count left (Some did) ends = ends
-
-pub all_run : {S : Type 0} (state : S → State) (usable : S → Type 0) (s : S) (known a b : Option (List ℕ)) (r : Result (Unit {0}) DrillStop) → RunsAll state usable s known a b r → DrillsOver state usable s known a b r
-all_run state usable s known a b (Ok u) run = run
-all_run state usable s known a b (Err (stop.BadLine n)) run = run
-all_run state usable s known a b (Err stop.Storage) run = run
-all_run state usable s known a b (Err stop.ReadFailed) (raw, with_reply, run) = absurd (never_unread state run.last run.floor _ run.left run.ended_in run.ends)
-all_run state usable s known a b (Err stop.WriteFailed) run = run
-all_run state usable s known a b (Err stop.Memory) run = run
 
 -- The run ends if the lines of the script can't be read.
 pub unread_all : {S : Type 0} (state : S → State) (usable : S → Type 0) (s : S) (known a : Option (List ℕ)) (r : Result (Unit {0}) DrillStop) (why : DrillStop) (fault : ReadFault) → r ≡ Err why → why ≡ unread fault

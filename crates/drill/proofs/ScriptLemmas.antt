@@ -1,10 +1,10 @@
 -- The lines of a script that send a request to the server.
 use Rattle.std.proofs.Common.{◌≡◌, ℕ, ◌+◌, ◌-◌, ◌<◌, Bool, List, [], ◌∷◌, ◌++◌, codes, cond, drop, length, map, not, get_or, position, take, Bor, Option, Some, None, refl, sym, ap, arith, ◌∙◌}
-use Rattle.std.specs.Prelude.{bytes_eq, nat_lt, option_and_then, option_map}
+use Rattle.std.specs.Prelude.{bytes_eq, nat_lt, option_map}
 use Rattle.std.specs.List.{flat_map, prefix_len, position_or_len}
 use Rattle.std.proofs.lemmas.List.{drop-map, drop_more, length-drop, length-map, take_all, take-map}
 use Rattle.std.proofs.lemmas.List.Folds.{flat_map-map}
-use Rattle.drill.specs.Scripts.{Import, asked, asked_by, post, step_of}
+use Rattle.drill.specs.Scripts.{Import, Step, asked, post}
 use Rattle.text_io.specs.Written.{line}
 use Rattle.wire.specs.Asks.{import_tail}
 
@@ -29,21 +29,21 @@ is_dot l = bytes_eq l.now (codes ".")
 abbrev import_by : List ℕ → List ℕ → List ℕ → Option (List (List ℕ) × List (List ℕ)) → Option (List ℕ × List (List ℕ))
 import_by number batch product file = option_map (λ f. (post (number ++ import_tail batch product) (flat_map line f.0), f.1)) file
 
-pub import_unasked : (text number batch product : List ℕ) (ls : List (Bor (List ℕ))) → step_of text ≡ Some (Import number batch product) → position is_dot ls ≡ None
-    → None ≡ asked text (map text_of ls)
+pub import_unasked : (step : Step) (number batch product : List ℕ) (ls : List (Bor (List ℕ))) → step ≡ Import number batch product → position is_dot ls ≡ None
+    → None ≡ asked step (map text_of ls)
 unfolding file_by
-import_unasked text number batch product ls step none =
-    sym (ap (option_and_then (λ s. asked_by s (map text_of ls))) step
+import_unasked step number batch product ls is none =
+    sym (ap (λ s. asked s (map text_of ls)) is
     ∙ ap (λ o. import_by number batch product (file_by (map text_of ls) o)) (position-map (λ l. bytes_eq l (codes ".")) text_of ls ∙ none))
 
-pub import_asked : (text number batch product m : List ℕ) (ls : List (Bor (List ℕ))) (i : ℕ) → step_of text ≡ Some (Import number batch product) → position is_dot ls ≡ Some i
+pub import_asked : (step : Step) (number batch product m : List ℕ) (ls : List (Bor (List ℕ))) (i : ℕ) → step ≡ Import number batch product → position is_dot ls ≡ Some i
     → m ≡ post (number ++ import_tail batch product) (flat_map (λ l. line l.now) (take i ls))
-    → Some (m, drop (i + 1) (map text_of ls)) ≡ asked text (map text_of ls)
+    → Some (m, drop (i + 1) (map text_of ls)) ≡ asked step (map text_of ls)
 unfolding file_by
-import_asked text number batch product m ls i step found is =
+import_asked step number batch product m ls i is found made =
     let file : flat_map (λ l. line l.now) (take i ls) ≡ flat_map line (take i (map text_of ls)) = sym (flat_map-map line text_of (take i ls)) ∙ ap (flat_map line) (sym (take-map text_of i ls)) in
-    ap (λ x. Some (x, drop (i + 1) (map text_of ls))) (is ∙ ap (post (number ++ import_tail batch product)) file)
-    ∙ sym (ap (option_and_then (λ s. asked_by s (map text_of ls))) step
+    ap (λ x. Some (x, drop (i + 1) (map text_of ls))) (made ∙ ap (post (number ++ import_tail batch product)) file)
+    ∙ sym (ap (λ s. asked s (map text_of ls)) is
     ∙ ap (λ o. import_by number batch product (file_by (map text_of ls) o)) (position-map (λ l. bytes_eq l (codes ".")) text_of ls ∙ found))
 
 -- The lines from position `at` on are the line at `at` and the lines after it.

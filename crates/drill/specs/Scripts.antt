@@ -36,16 +36,13 @@ import_of words = option_and_then (λ p. option_and_then (λ q. named p.0 q.0 q.
 abbrev pub target_of : List ℕ → Option Step
 target_of words = if nat_lt 0 (length words) && not (list_any (λ b. b == 32) words) then Some (Get words) else None
 
+-- the request of a line with this first word and this rest
 abbrev pub step_by : List ℕ → List ℕ → Option Step
 step_by word words =
     if bytes_eq word (codes "get") then target_of words
     else if bytes_eq word (codes "office") then office_of words
     else if bytes_eq word (codes "import") then import_of words
     else None
-
--- the request of a line
-abbrev pub step_of : List ℕ → Option Step
-step_of text = option_and_then (λ p. step_by p.0 p.1) (word_of text)
 
 -- ---- the messages (RFC 9112)
 
@@ -61,14 +58,11 @@ abbrev pub file_in : List (List ℕ) → Option (List (List ℕ) × List (List �
 file_in behind = cut (λ l. bytes_eq l (codes ".")) behind
 
 -- the message of a request, and the lines after its file; each line of a file ends with LF
-abbrev pub asked_by : Step → List (List ℕ) → Option (List ℕ × List (List ℕ))
-asked_by (Office number body) behind = Some (post number body, behind)
-asked_by (Import number batch product) behind =
+abbrev pub asked : Step → List (List ℕ) → Option (List ℕ × List (List ℕ))
+asked (Office number body) behind = Some (post number body, behind)
+asked (Import number batch product) behind =
     option_map (λ f. (post (number ++ import_tail batch product) (flat_map line f.0), f.1)) (file_in behind)
-asked_by (Get target) behind = Some (get target, behind)
-
-abbrev pub asked : List ℕ → List (List ℕ) → Option (List ℕ × List (List ℕ))
-asked text behind = option_and_then (λ s. asked_by s behind) (step_of text)
+asked (Get target) behind = Some (get target, behind)
 
 -- ---- the values of the code
 

@@ -12,11 +12,10 @@ use Rattle.feeder.specs.declared.world.Stop.TheVariants as stop
 use Rattle.drill.specs.declared.sent.Packet.{Packet}
 use Rattle.drill.specs.declared.turn.Turn.{Turn}
 use Rattle.drill.specs.Floors.{Floor, Turned, Turns, packet_at, with_reply}
-use Rattle.drill.specs.Turns.{turn_of}
 use Rattle.drill.specs.declared.delivery.Delivery.{Delivery}
 use Rattle.drill.specs.declared.step.Did.{Did as DidValue}
-use Rattle.drill.specs.Deliveries.{delivery_of}
 use Rattle.drill.specs.Scripts.{asked}
+use Rattle.drill.specs.ScriptLines.{Ask, Deliver, Line, Move, line_of}
 
 -- the effect of a line: the shop floor after it, how many of the following lines were its file, its
 -- output, and whether the server crashes in it
@@ -54,9 +53,6 @@ AsksBy state old new fl behind None did = did ≡ None
 AsksBy state old new fl behind (Some p) did =
     (reply : List ℕ) × (taken : ℕ) × Answers state old new p.0 reply × (drop taken behind ≡ p.1)
     × (did ≡ Some (record { floor = fl; taken = taken; text = reply_line reply; stops = false }))
-
-abbrev pub Asks : {S : Type 0} → (S → State) → S → S → Floor → List ℕ → List (List ℕ) → Option Did → Type 0
-Asks state old new fl text behind did = AsksBy state old new fl behind (asked text behind) did
 
 -- ---- lines that deliver a packet
 
@@ -96,18 +92,16 @@ Moves fl t did = (made : Option Turned) × Turns fl t made × (did ≡ option_ma
 
 -- ---- any line
 
-abbrev pub ByDelivery : {S : Type 0} → (S → State) → S → S → Floor → List ℕ → List (List ℕ) → Option Delivery → Option Did → Type 0
-ByDelivery state old new fl text behind None did = Asks state old new fl text behind did
-ByDelivery state old new fl text behind (Some d) did = Delivers state old new fl d did
-
-abbrev pub ByTurn : {S : Type 0} → (S → State) → S → S → Floor → List ℕ → List (List ℕ) → Option Turn → Option Did → Type 0
-ByTurn state old new fl text behind None did = ByDelivery state old new fl text behind (delivery_of text) did
-ByTurn state old new fl text behind (Some t) did = (new ≡ old) × Moves fl t did
+abbrev pub ByLine : {S : Type 0} → (S → State) → S → S → Floor → List (List ℕ) → Option Line → Option Did → Type 0
+ByLine state old new fl behind None did = did ≡ None
+ByLine state old new fl behind (Some (Move t)) did = (new ≡ old) × Moves fl t did
+ByLine state old new fl behind (Some (Deliver d)) did = Delivers state old new fl d did
+ByLine state old new fl behind (Some (Ask s)) did = AsksBy state old new fl behind (asked s behind) did
 
 -- the effect of a line with the lines after it, or `None` if the line is malformed or names
 -- something that doesn't exist
 abbrev pub Steps : {S : Type 0} → (S → State) → S → S → Floor → List ℕ → List (List ℕ) → Option Did → Type 0
-Steps state old new fl text behind did = ByTurn state old new fl text behind (turn_of text) did
+Steps state old new fl text behind did = ByLine state old new fl behind (line_of text) did
 
 -- ---- the values of the code
 

@@ -43,6 +43,7 @@ card_by p = option_and_then (λ m. option_map (λ w. turn.Card m w) (status_word
 abbrev pub card_of : List ℕ → Option Turn
 card_of words = option_and_then card_by (word_of words)
 
+-- the event of a line with this first word and this rest
 abbrev pub turn_by : List ℕ → List ℕ → Option Turn
 turn_by word words =
     if bytes_eq word (codes "power") then power_of words
@@ -51,10 +52,6 @@ turn_by word words =
     else if bytes_eq word (codes "card") then card_of words
     else if bytes_eq word (codes "back") then option_map (λ j. turn.Back j) (count_of words)
     else None
-
--- the event of a line
-abbrev pub turn_of : List ℕ → Option Turn
-turn_of text = option_and_then (λ (p : List ℕ × List ℕ). turn_by p.0 p.1) (word_of text)
 
 -- ---- the numbers of an event are in their ranges
 

@@ -1,10 +1,9 @@
 //! Parses the lines that deliver a packet to the server.
 ghost use Rattle.std.specs.Prelude.{◌≡◌, ◌≤◌, IfSome};
-ghost use Rattle.drill.specs.Deliveries.{delivery_of, delivery_to, stop_of};
+ghost use Rattle.drill.specs.Deliveries.{delivery_by, stop_of};
 
 use crate::turn::count_of;
 use feeder::Stop;
-use text_io::word_of;
 
 /// The delivery of a packet, and the moment at which the server crashes, if it does.
 #[derive(Clone, Copy)]
@@ -14,14 +13,15 @@ pub(crate) struct Delivery {
     pub(crate) stop: Stop,
 }
 
-/// Parses `deliver K`, `stop-before K` or `stop-after K`. Returns `None` for any other line.
-pub(crate) fn delivery_of(line: &[u8]) -> Option<Delivery>
-    ensures value { result ≡ delivery_of line.now }
+/// Parses a delivery by the first word of its line and the rest: `deliver K`, `stop-before K` or
+/// `stop-after K`. Returns `None` for any other line.
+pub(crate) fn delivery_by(word: &[u8], words: &[u8]) -> Option<Delivery>
+    ensures value { result ≡ delivery_by word.now words.now }
     ensures least { IfSome result (λ d. 1 ≤ d.packet) }
 {
-    let (word, words) = word_of(line)?;
     let stop = stop_of(word)?;
-    delivery_to(stop, words)
+    let packet = count_of(words)?;
+    Some(Delivery { packet, stop })
 }
 
 // Returns the moment of the crash that the first word of a line names.
@@ -37,12 +37,4 @@ fn stop_of(word: &[u8]) -> Option<Stop>
     } else {
         None
     }
-}
-
-fn delivery_to(stop: Stop, words: &[u8]) -> Option<Delivery>
-    ensures value { result ≡ delivery_to words.now stop }
-    ensures least { IfSome result (λ d. 1 ≤ d.packet) }
-{
-    let packet = count_of(words)?;
-    Some(Delivery { packet, stop })
 }

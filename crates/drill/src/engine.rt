@@ -58,35 +58,45 @@ fn do_lines<S: Reopen + Drop, W: Write>(
     let mut floor = Floor::new(alloc);
     let mut at = 0;
     while at < lines.len() {
-        let number = (at + 1) as u64;
-        let behind = &lines[at + 1..];
-        let (next, taken) = do_line(alloc, &mut floor, store, number, lines[at], behind, writer)?;
+        let line = NextLine {
+            number: (at + 1) as u64,
+            text: lines[at],
+            behind: &lines[at + 1..],
+        };
+        let (next, taken) = do_line(alloc, &mut floor, store, line, writer)?;
         store = next;
         at += 1 + taken;
     }
     Ok(())
 }
 
-// Runs one line. Returns the store after it, and how many of the following lines were its file.
+// The next line with its number, from 1, and the lines behind it.
+#[derive(Clone, Copy)]
+struct NextLine<'a> {
+    number: u64,
+    text: &'a [u8],
+    behind: &'a [&'a [u8]],
+}
+
+// Runs a line. Returns the store after it, and how many of the lines behind it were its file.
 fn do_line<S: Reopen + Drop, W: Write>(
     alloc: Global,
     floor: &mut Floor,
     mut store: S,
-    number: u64,
-    line: &[u8],
-    behind: &[&[u8]],
+    line: NextLine<'_>,
     writer: &mut W,
 ) -> Result<(S, usize), DrillStop>
-    ensures done { IfOk result (λ p. let behind = map (λ l. l.now) behind.now in
-        Goes S.state S.usable store floor.old (line.now ∷ behind) (W.contents writer.old)
-        (W.contents writer.new) p.0 floor.new (drop p.1 behind)) }
-    ensures within { IfOk result (λ p. p.1 ≤ length behind.now) }
+    ensures done { IfOk result (λ p. let behind = map (λ l. l.now) line.entry.behind.now in
+        Goes S.state S.usable store floor.old (line.entry.text.now ∷ behind)
+        (W.contents writer.old) (W.contents writer.new) p.0 floor.new (drop p.1 behind)) }
+    ensures within { IfOk result (λ p. p.1 ≤ length line.entry.behind.now) }
     ensures ends { IfErr result (λ why. Runs S.state S.usable store floor.old
-        (number + length behind.now) (line.now ∷ map (λ l. l.now) behind.now)
+        (line.entry.number + length line.entry.behind.now)
+        (line.entry.text.now ∷ map (λ l. l.now) line.entry.behind.now)
         (W.contents writer.old) (W.contents writer.new) (Err why)) }
 {
-    let Some(did) = step(alloc, floor, &mut store, line, behind)? else {
-        return Err(DrillStop::BadLine(number));
+    let Some(did) = step(alloc, floor, &mut store, line.text, line.behind)? else {
+        return Err(DrillStop::BadLine(line.number));
     };
     write_text(writer, did.text.as_slice())?;
     let taken = did.taken;

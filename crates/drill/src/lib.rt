@@ -6,6 +6,7 @@ mod delivery;
 mod engine;
 mod floor;
 mod inputs;
+mod line;
 mod lists;
 mod script;
 mod sent;

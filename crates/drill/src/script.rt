@@ -5,33 +5,32 @@ ghost use Rattle.std.specs.List.{flat_map};
 ghost use Rattle.wire.specs.Asks.{import_tail};
 ghost use Rattle.text_io.specs.Written.{line};
 ghost use Rattle.drill.specs.Scripts.{asked, get, import_of, numbered, office_of};
-ghost use Rattle.drill.specs.Scripts.{post, shown, step_by, step_of, target_of};
+ghost use Rattle.drill.specs.Scripts.{post, shown, step_by, target_of};
 
-use itoa::Buffer;
+use http_messages::push_request_head;
 use std::alloc::{AllocError, Global};
 use store_data::Name;
 use text_io::{is_number, word_of};
 
-/// Returns the message of a line, and how many of the lines after it are its batch file.
+/// Returns the message of a request, and how many of the lines after it are its batch file. Returns
+/// `None` if these lines have no end of a file.
 pub(crate) fn asked(
     alloc: Global,
-    line: &[u8],
+    step: Step<'_>,
     behind: &[&[u8]],
 ) -> Result<Option<(Vec<u8>, usize)>, AllocError>
     ensures value { IfOk result
         (λ found. option_map (λ p. (p.0.items, drop p.1 (map (λ l. l.now) behind.now))) found
-        ≡ asked line.now (map (λ l. l.now) behind.now)) }
+        ≡ asked (shown step.entry) (map (λ l. l.now) behind.now)) }
     ensures within { IfOk result (λ found. IfSome found (λ p. p.1 ≤ length behind.now)) }
 {
-    match step_of(line) {
-        Some(Step::Office { number, body }) => Ok(Some((post(alloc, number, body)?, 0))),
-        Some(
-            Step::Import {
-                number,
-                batch,
-                product,
-            },
-        ) => {
+    match step {
+        Step::Office { number, body } => Ok(Some((post(alloc, number, body)?, 0))),
+        Step::Import {
+            number,
+            batch,
+            product,
+        } => {
             let Some(end) = dot_in(behind) else {
                 return Ok(None);
             };
@@ -39,14 +38,13 @@ pub(crate) fn asked(
             let file = file_of(alloc, &behind[..end])?;
             Ok(Some((post(alloc, target.as_slice(), file.as_slice())?, end + 1)))
         }
-        Some(Step::Get { target }) => Ok(Some((get(alloc, target)?, 0))),
-        None => Ok(None),
+        Step::Get { target } => Ok(Some((get(alloc, target)?, 0))),
     }
 }
 
 /// A request to the server.
 #[derive(Clone, Copy)]
-enum Step<'a> {
+pub(crate) enum Step<'a> {
     /// A POST with the given body, usually JSON.
     Office {
         number: &'a [u8],
@@ -64,16 +62,8 @@ enum Step<'a> {
     },
 }
 
-// Parses the request of a line.
-fn step_of(line: &[u8]) -> Option<Step<'_>>
-    ensures { option_map shown result ≡ step_of line.now }
-{
-    let (word, words) = word_of(line)?;
-    step_by(word, words)
-}
-
-// Parses a request by the first word of its line and the rest.
-fn step_by<'a>(word: &[u8], words: &'a [u8]) -> Option<Step<'a>>
+/// Parses a request by the first word of its line and the rest. Returns `None` for any other line.
+pub(crate) fn step_by<'a>(word: &[u8], words: &'a [u8]) -> Option<Step<'a>>
     ensures { option_map shown result ≡ step_by word.now words.now }
 {
     if word == b"get".as_slice() {
@@ -166,12 +156,10 @@ fn file_of(alloc: Global, lines: &[&[u8]]) -> Result<Vec<u8>, AllocError>
 fn post(alloc: Global, target: &[u8], body: &[u8]) -> Result<Vec<u8>, AllocError>
     ensures { IfOk result (λ m. m.items ≡ post target.now body.now) }
 {
-    let mut size = Buffer::new();
-    let mut message = Vec::from_slice(alloc, b"POST /c/office/")?;
-    message.extend_from_slice(target)?;
-    message.extend_from_slice(b" HTTP/1.1\r\nHost: localhost\r\nContent-Length: ")?;
-    message.extend_from_slice(size.format(body.len()).as_bytes())?;
-    message.extend_from_slice(b"\r\n\r\n")?;
+    let mut path = Vec::from_slice(alloc, b"/c/office/")?;
+    path.extend_from_slice(target)?;
+    let mut message = Vec::new(alloc);
+    push_request_head(&mut message, path.as_slice(), body.len())?;
     message.extend_from_slice(body)?;
     Ok(message)
 }

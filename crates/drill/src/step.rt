@@ -2,15 +2,16 @@
 ghost use Rattle.std.specs.Prelude.{◌≡◌, ◌++◌, ◌≤◌, List, ℕ, IfOk, IfSome, OnOk, Some, length, map};
 ghost use Rattle.drill.specs.Floors.{Floor as FloorState};
 ghost use Rattle.drill.specs.Turns.{IsTurn};
-ghost use Rattle.drill.specs.Deliveries.{delivery_of};
-ghost use Rattle.drill.specs.Steps.{Answers, Asks, ByDelivery, Delivers, Moves, Steps, delivered};
+ghost use Rattle.drill.specs.Scripts.{asked, shown};
+ghost use Rattle.drill.specs.Steps.{Answers, AsksBy, Delivers, Moves, Steps, delivered};
 ghost use Rattle.drill.specs.Steps.{did_of, did_view, reply_line, reply_number, stopped};
 
-use crate::delivery::{Delivery, delivery_of};
+use crate::delivery::Delivery;
 use crate::floor::Floor;
-use crate::script::asked;
+use crate::line::{Line, line_of};
+use crate::script::{Step, asked};
 use crate::texts::text_line;
-use crate::turn::{Turn, turn_of};
+use crate::turn::Turn;
 use feeder::Stop;
 use itoa::Buffer;
 use job_facts::JobStore;
@@ -41,9 +42,11 @@ pub(crate) fn step<S: JobStore>(
         (map (λ l. l.now) behind.now) (did_of floor.new did)) }
     ensures within { IfOk result (λ did. IfSome did (λ d. d.taken ≤ length behind.now)) }
 {
-    match turn_of(line) {
-        Some(turn) => move_by(alloc, floor, turn),
-        None => reach(alloc, floor, store, line, behind),
+    match line_of(line) {
+        Some(Line::Move(turn)) => move_by(alloc, floor, turn),
+        Some(Line::Deliver(delivery)) => deliver(alloc, floor, store, delivery),
+        Some(Line::Ask(step)) => ask(alloc, store, step, behind),
+        None => Ok(None),
     }
 }
 
@@ -63,36 +66,19 @@ fn move_by(alloc: Global, floor: &mut Floor, turn: Turn) -> Result<Option<Did>, 
     }))
 }
 
-// Runs a line that reaches the server.
-fn reach<S: JobStore>(
-    alloc: Global,
-    floor: &mut Floor,
-    store: &mut S,
-    line: &[u8],
-    behind: &[&[u8]],
-) -> Result<Option<Did>, AllocError>
-    ensures reaches { IfOk result (λ did. ByDelivery S.state store.old store.new floor.old
-        line.now (map (λ l. l.now) behind.now) (delivery_of line.now) (did_of floor.new did)) }
-    ensures within { IfOk result (λ did. IfSome did (λ d. d.taken ≤ length behind.now)) }
-{
-    match delivery_of(line) {
-        Some(delivery) => deliver(alloc, floor, store, delivery),
-        None => ask(alloc, store, line, behind),
-    }
-}
-
 // Sends the request of a line to the server.
 fn ask<S: JobStore>(
     alloc: Global,
     store: &mut S,
-    line: &[u8],
+    step: Step<'_>,
     behind: &[&[u8]],
 ) -> Result<Option<Did>, AllocError>
-    ensures asks { (fl : FloorState) → IfOk result (λ did. Asks S.state store.old store.new fl
-        line.now (map (λ l. l.now) behind.now) (did_of fl did)) }
+    ensures asks { (fl : FloorState) → let behind = map (λ l. l.now) behind.now in
+        IfOk result (λ did. AsksBy S.state store.old store.new fl behind
+        (asked (shown step.entry) behind) (did_of fl did)) }
     ensures within { IfOk result (λ did. IfSome did (λ d. d.taken ≤ length behind.now)) }
 {
-    let Some((message, taken)) = asked(alloc, line, behind)? else {
+    let Some((message, taken)) = asked(alloc, step, behind)? else {
         return Ok(None);
     };
     let reply = serve(alloc, store, message)?;
@@ -122,7 +108,10 @@ fn deliver<S: JobStore>(
     let (machine, number) = (packet.machine, packet.number);
     let message = Vec::from_slice(alloc, packet.message.as_slice())?;
     match delivery.stop {
-        Stop::No => Ok(Some(answer(alloc, floor, store, machine, number, message)?)),
+        Stop::No => {
+            let reply = serve(alloc, store, message)?;
+            Ok(Some(answered(alloc, floor, machine, number, reply.as_slice())?))
+        }
         Stop::Before => Ok(Some(stop(alloc)?)),
         Stop::After => {
             let _ = serve(alloc, store, message)?;
@@ -131,27 +120,24 @@ fn deliver<S: JobStore>(
     }
 }
 
-// Serves a packet and stores its reply.
-fn answer<S: JobStore>(
+// Stores the reply to a packet of `machine` with the request number `number`.
+fn answered(
     alloc: Global,
     floor: &mut Floor,
-    store: &mut S,
     machine: Name,
     number: u64,
-    message: Vec<u8>,
+    reply: &[u8],
 ) -> Result<Did, AllocError>
-    ensures { IfOk result (λ did. (reply : List ℕ)
-        × Answers S.state store.old store.new message.items reply
-        × (did_view floor.new did ≡ delivered (record {
+    ensures { IfOk result (λ did. (message : List ℕ)
+        → did_view floor.new did ≡ delivered (record {
           machine = machine;
           number = number;
-          message = message.items;
-        }) reply floor.old)) }
+          message = message;
+        }) reply.now floor.old) }
 {
-    let reply = serve(alloc, store, message)?;
     let kept = Bytes::from_vec(reply.to_vec(alloc)?);
     let count = floor.keep(machine, number, kept)?;
-    let text = with_reply(numbered(alloc, count)?, reply.as_slice())?;
+    let text = with_reply(numbered(alloc, count)?, reply)?;
     Ok(Did {
         taken: 0,
         text,

@@ -1,7 +1,7 @@
 //! Parses the lines of a drill that move a machine or a reply.
 ghost use Rattle.std.specs.Prelude.{◌≡◌, ◌≤◌, IfSome};
 ghost use Rattle.drill.specs.Turns.{IsTurn, card_of, count_of, insert_of, machine_of};
-ghost use Rattle.drill.specs.Turns.{power_of, turn_by, turn_of};
+ghost use Rattle.drill.specs.Turns.{power_of, turn_by};
 
 use store_data::Name;
 use text_io::{number_within, status_word, word_of};
@@ -43,19 +43,10 @@ pub enum Turn {
     },
 }
 
-/// Parses `power M BOOT`, `insert M BATCH SERIAL`, `send M`, `card M SW` or `back J`, with single
-/// spaces between the words and without leading zeros (this project's profile). Returns `None` for
-/// any other line.
-pub fn turn_of(line: &[u8]) -> Option<Turn>
-    ensures value { result ≡ turn_of line.now }
-    ensures ranged { IfSome result IsTurn }
-{
-    let (word, words) = word_of(line)?;
-    turn_by(word, words)
-}
-
-// Parses an event by the first word of its line and the rest.
-fn turn_by(word: &[u8], words: &[u8]) -> Option<Turn>
+/// Parses an event by the first word of its line and the rest: `power M BOOT`, `insert M BATCH
+/// SERIAL`, `send M`, `card M SW` or `back J`, with single spaces between the words and without
+/// leading zeros (this project's profile). Returns `None` for any other line.
+pub fn turn_by(word: &[u8], words: &[u8]) -> Option<Turn>
     ensures value { result ≡ turn_by word.now words.now }
     ensures ranged { IfSome result IsTurn }
 {

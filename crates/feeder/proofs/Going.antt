@@ -141,7 +141,13 @@ module _ (names : List (List ℕ)) (w : World) (name : List ℕ) (y : Machine) (
     machines = machine_at;
     packets = All-weaker (IsFinePacket f w.cards w.machines w.boots) (IsFinePacket f cards now boots) packet_at w.packets fine.packets;
     agree = fine.agree;
-    kept = All-weaker (IsKeptFine names f marks w.cards w.machines w.packets) (IsKeptFine names f marks cards now w.packets) (λ e is listed. let one = is listed in record { http_reply = answered_at e.client e.number (record { status = e.status; body = e.body }) one.http_reply; ask = one.ask }) w.contents.kept fine.kept;
-    decided = All-weaker (IsDecidedFine names f marks w.cards w.machines w.packets) (IsDecidedFine names f marks cards now w.packets) (λ g is listed. let one = is listed in record { http_reply = answered_at g.arrival.client g.arrival.number g.http_reply one.http_reply; call = one.call }) w.decided fine.decided;
+    kept =
+        All-weaker (IsKeptFine names f marks w.cards w.machines w.packets) (IsKeptFine names f marks cards now w.packets)
+        (λ e is listed. let one = is listed in record { http_reply = answered_at e.client e.number (record { status = e.status; body = e.body }) one.http_reply; ask = one.ask })
+        w.contents.kept fine.kept;
+    decided =
+        All-weaker (IsDecidedFine names f marks w.cards w.machines w.packets) (IsDecidedFine names f marks cards now w.packets)
+        (λ g is listed. let one = is listed in record { http_reply = answered_at g.arrival.client g.arrival.number g.http_reply one.http_reply; call = one.call })
+        w.decided fine.decided;
     given = fine.given;
   }

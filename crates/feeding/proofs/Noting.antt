@@ -1,8 +1,8 @@
 -- Event lines that are written one after another.
 use Rattle.std.proofs.Common.{◌≡◌, ◌≢◌, ◌<◌, ◌+◌, ◌==◌, true, false, ℕ, Bool, Bor, List, [], ◌∷◌, ◌++◌, length, map, take, drop, get_or, append_assoc, min, Option, Some, None, Result, IfOk, refl, sym, ap, subst, ◌∙◌, append-nil, arith, inl, inr, ◌≤◌}
-use Rattle.std.specs.Prelude.{◌↔◌, IsTrue, if◌then◌else◌, nat_lt, option_map, position, unwrap_or}
+use Rattle.std.specs.Prelude.{◌↔◌, IsTrue, nat_lt, option_map, position, unwrap_or}
 use Rattle.std.specs.List.{before_first, position_or_len}
-use Rattle.std.proofs.lemmas.Bool.{cases_lt, cond_both, eq-eqb, ltb-false, ne_eqb}
+use Rattle.std.proofs.lemmas.Bool.{cases_lt, cond_both, ltb-false, ne_eqb}
 use Rattle.std.proofs.lemmas.Option.{same_Some}
 use Rattle.std.proofs.lemmas.List.{get_or_default, length-take, take-take, take_all}
 use Rattle.std.specs.Prelude.{Vec}
@@ -121,9 +121,6 @@ exhausted_next ls i d serial done within card so_far =
 
 pub again_some : (number tries : ℕ) (came : Option (List ℕ)) → 0 < tries → again_line number tries came ∷ [] ≡ again_lines number tries came
 again_some number tries came some = sym (ap (λ b. if b then [] else again_line number tries came ∷ []) (ne_eqb tries 0 (λ none. absurd (omega (arith, none, some)))))
-
-pub again_none : (number tries : ℕ) (came : Option (List ℕ)) → tries ≤ 0 → [] ≡ again_lines number tries came
-again_none number tries came none = let zero : tries ≡ 0 = omega arith in sym (ap (λ b. if b then [] else again_line number tries came ∷ []) (eq-eqb tries 0 zero))
 
 -- ---- a try, whose received bytes are kept only if event lines are written
 

@@ -35,10 +35,6 @@ texts_more f [] h = append-nil (lines_of_try f (asked f.feeder) h)
 texts_more f (x ∷ hs) h =
     ap (λ t. lines_of_try f (asked f.feeder) x ++ t) (texts_more (hears f x.reply) hs h) ∙ sym (append_assoc (lines_of_try f (asked f.feeder) x) (event_texts (hears f x.reply) hs) _)
 
-pub logs_none : (log : Option (List Try)) → Logs log log []
-logs_none None = refl
-logs_none (Some l) = ap Some (sym (append-nil l))
-
 pub logs_more : (a b c : Option (List Try)) (hs : List Heard) (h : Heard) → Logs a b hs → c ≡ option_map (λ l. l ++ h.one ∷ []) b → Logs a c (hs ++ h ∷ [])
 logs_more None b c hs h is more = more ∙ ap (option_map (λ (l : List Try). l ++ h.one ∷ [])) is
 logs_more (Some l) b c hs h is more =

@@ -1,6 +1,7 @@
 -- Lemmas about the head of a request that a client sends: its end, the result of its tests, and its
 -- meaning together with a body.
-use Rattle.std.proofs.Common.{◌≡◌, ◌<◌, ◌≤◌, ◌+◌, ◌-◌, ◌^◌, ◌==◌, ℕ, zero, suc, Bool, true, false, cond, List, [], ◌∷◌, ◌++◌, length, take, drop, reverse, get_or, Option, Some, None, inl, inr, refl, sym, ap, subst, ◌∙◌, codes, decimal, arith, append_assoc, append-nil, length-append, length-drop, length-take-le}
+use Rattle.std.proofs.Common.{◌≡◌, ◌<◌, ◌≤◌, ◌+◌, ◌-◌, ◌^◌, ◌==◌, ℕ, zero, suc, Bool, true, false, cond, List, [], ◌∷◌, ◌++◌, length, take, drop, reverse, get_or, Option}
+use Rattle.std.proofs.Common.{Some, None, inl, inr, refl, sym, ap, subst, ◌∙◌, codes, decimal, arith, append_assoc, append-nil, length-append, length-drop, length-take-le}
 use Rattle.std.specs.Prelude.{◌&&◌, not, nat_eq, nat_lt, nat_le, slice_index, Ok}
 use Rattle.std.specs.List.{ends_with, list_all}
 use Rattle.std.specs.Char.{digit_value, is_ascii_digit}
@@ -239,9 +240,6 @@ size_field digits = record { name = codes "Content-Length"; raw = 32 ∷ digits;
 
 tree : List ℕ → List ℕ → RequestHead
 tree target digits = record { blank = []; method = codes "POST"; target = target; minor = 1; line_end = crlf; fields = host ∷ size_field digits ∷ []; last = crlf }
-
-nil-append : (xs : List ℕ) → [] ++ xs ≡ xs
-nil-append xs = refl
 
 tree_is_printed : (target digits : List ℕ) → laid target digits ≡ print_request (tree target digits)
 unfolding laid size_line tree host size_field httparse_on_literals

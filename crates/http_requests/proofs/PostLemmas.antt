@@ -161,9 +161,6 @@ post_is_heard client number tail body text name small seen t heard is b =
 pub tail_is_visible : (b p : List ℕ) → IsTrue (is_name b) → IsTrue (is_name p) → list_all is_visible (import_tail b p) ≡ true
 tail_is_visible b p batch product = simp (list_all-append, name_is_visible b batch, name_is_visible p product)
 
-pub tail_is_short : (b p : List ℕ) → IsTrue (is_name b) → IsTrue (is_name p) → length (import_tail b p) ≤ 72
-tail_is_short b p batch product = simp length-append (omega (arith, name_is_short b batch, name_is_short p product))
-
 -- ---- the meaning of the message
 
 pub job_means : (client : List ℕ) (number : ℕ) (body text : List ℕ) → IsTrue (is_name client) → 1 ≤ number → number < 10 ^ 18

@@ -37,7 +37,8 @@ use Rattle.table_rows.specs.After.{batch_rows_after, new_batch, new_grouping, ne
 use Rattle.table_rows.specs.Tables.{HaveSameRows, StoredBatch, StoredRemake}
 use Rattle.table_rows.specs.declared.writing.Writing.TheVariants as writing
 use Rattle.table_rows.proofs.Found.{filter_none, find_none}
-use Rattle.image_laws.specs.Image.{batch_by, batches_by_id, groupings_in, image, placed_records, records_in, remakes_at, remakes_in, sessions_by_id, stored_batch, stored_batches, stored_blanks, stored_groupings, stored_lots, stored_record, stored_records, stored_remakes, stored_session, stored_sessions, stored_words}
+use Rattle.image_laws.specs.Image.{batch_by, batches_by_id, groupings_in, image, placed_records, records_in, remakes_at, remakes_in, sessions_by_id, stored_batch, stored_batches}
+use Rattle.image_laws.specs.Image.{stored_blanks, stored_groupings, stored_lots, stored_record, stored_records, stored_remakes, stored_session, stored_sessions, stored_words}
 use Rattle.image_laws.proofs.FileRows.{each_record_named, rows_come}
 use Rattle.image_laws.proofs.Found.{found_alone, place_kept, some_there, to_last}
 use Rattle.image_laws.proofs.Lists.{All-numbered, flat_map_same, pushed, unmoved}

@@ -19,7 +19,8 @@ use Rattle.step_laws.specs.Records.{StandsSame}
 use Rattle.step_laws.proofs.Kept.{plan_kept, product_kept, state_kept}
 use Rattle.table_rows.specs.After.{new_grouping}
 use Rattle.table_rows.specs.Tables.{HaveSameRows, StoredBatch, StoredBlank, StoredLot}
-use Rattle.image_laws.specs.Image.{batch_by, batch_id, batches_by_id, groupings_in, image, place_in, placed_records, records_in, remakes_at, remakes_in, sessions_by_id, stored_batch, stored_batches, stored_blanks, stored_groupings, stored_lots, stored_record, stored_records, stored_remakes, stored_session, stored_sessions, stored_words, words_in}
+use Rattle.image_laws.specs.Image.{batch_by, batch_id, batches_by_id, groupings_in, image, place_in, placed_records, records_in, remakes_at, remakes_in, sessions_by_id, stored_batch, stored_batches}
+use Rattle.image_laws.specs.Image.{stored_blanks, stored_groupings, stored_lots, stored_record, stored_records, stored_remakes, stored_session, stored_sessions, stored_words, words_in}
 use Rattle.image_laws.proofs.Lists.{All-numbered, flat_map_same, unmoved}
 
 -- ---- the parts of the counters

@@ -1,9 +1,9 @@
 -- Proves that the two rows of a fault are found one row at a time.
 use Rattle.std.proofs.Common.{◌≡◌, ◌≤◌, ◌<◌, ◌+◌, ◌-◌, ℕ, Bool, true, false, List, [], ◌∷◌, ◌++◌, length, map, filter, get_or, take, drop, All, None, refl, sym, subst, ap, ◌∙◌, arith}
-use Rattle.std.specs.Prelude.{bytes_eq, if◌then◌else◌}
+use Rattle.std.specs.Prelude.{bytes_eq}
 use Rattle.std.specs.List.{enumerate_from}
-use Rattle.std.proofs.lemmas.List.{append-nil, drop_more, get_or_default, length-append, length-map, length-take, map-append, take_at, take_more}
-use Rattle.std.proofs.lemmas.List.Elements.{All-cons, All-filter, All-head, All-map, All-nil, All-tail, All-take, filter-append}
+use Rattle.std.proofs.lemmas.List.{append-nil, drop_more, get_or_default, length-map, map-append, take_more}
+use Rattle.std.proofs.lemmas.List.Elements.{All-cons, All-filter, All-head, All-map, All-nil, All-tail, filter-append}
 use Rattle.std.proofs.lemmas.List.FromFn.{length-enumerate_from}
 use Rattle.std.proofs.lemmas.List.Sums.{count_by-le-length, length-filter}
 use Rattle.store_data.specs.Ranks.{IsRank}
@@ -18,12 +18,6 @@ use Rattle.import_causes.specs.Pairs.{first_pair, pair_or, partner, rows_named, 
 use Rattle.import_causes.specs.Walks.{AreRanked}
 
 -- ---- pairs
-
--- a list without its last element
-pub cut-last : (rows before : List Numbered) (row : Numbered) → rows ≡ before ++ row ∷ [] → take (length rows - 1) rows ≡ before
-cut-last rows before row is =
-    ap (λ (xs : List Numbered). take (length xs - 1) xs) is
-    ∙ take_at before (row ∷ []) (length (before ++ row ∷ []) - 1) (omega (arith, length-append before (row ∷ [])))
 
 pub up-to : (rows : List Numbered) (i : ℕ) (row : Numbered) → i < length rows → row ≡ get_or rows i row → take (i + 1) rows ≡ take i rows ++ row ∷ []
 up-to rows i row within at = take_more rows i row within ∙ ap (λ (r : Numbered). take i rows ++ r ∷ []) (sym at)
@@ -44,12 +38,6 @@ unfolding first_pair
 pair-none fault m before = refl
 
 -- ---- the rows of a record
-
-pub ranked-take : (rows : List Numbered) (n : ℕ) → AreRanked rows → AreRanked (take n rows)
-ranked-take rows n ranked = record {
-  few = omega (arith, length-take n rows, ranked.few);
-  each = All-take (λ (e : Numbered). IsRank e.1.rank) n rows ranked.each;
-}
 
 -- the ranks of summaries without row numbers
 pub ranks-of : (rows : List Numbered) (summaries : List Summary) → summaries ≡ map (λ (e : Numbered). e.1) rows → All (λ (e : Numbered). IsRank e.1.rank) rows

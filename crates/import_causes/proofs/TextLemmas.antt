@@ -1,7 +1,7 @@
 -- Proves that the fields of a row are kept and counted as they end.
 use Rattle.std.proofs.Common.{◌≡◌, ◌≤◌, ◌<◌, ◌+◌, ℕ, true, false, List, [], ◌∷◌, ◌++◌, length, map, get_or, take, refl, sym, ap, ◌∙◌, arith, Vec}
 use Rattle.std.specs.Global.{Global}
-use Rattle.std.proofs.lemmas.List.{get_or-map, get_or-take, get_or_past, length-append, length-map, length-take, map_push, take-append-le, take_all}
+use Rattle.std.proofs.lemmas.List.{get_or-map, get_or-take, get_or_past, length-map, length-take}
 use Rattle.std.proofs.lemmas.Option.{unwrap_or-slice_get}
 use Rattle.csv.specs.Machine.{ends_at_end, next_record, step}
 use Rattle.csv.specs.Reading.{default_config}
@@ -30,18 +30,6 @@ module _ (kept : List (Vec ℕ Global)) (fields : List (List ℕ)) (is : bytes_o
   pub field-missing : (i : ℕ) → i < 6 → length kept ≤ i → [] ≡ field fields i
   field-missing i six past =
       sym (unwrap_or-slice_get fields i [] ∙ get_or_past fields i [] (omega (arith, kept-length, length-take 6 fields)))
-
-  pub kept-more : (f : Vec ℕ Global) → length kept < 6 → bytes_of (kept ++ f ∷ []) ≡ take 6 (fields ++ f.items ∷ [])
-  kept-more f room =
-      let few : length fields ≤ 5 = omega (arith, kept-length, length-take 6 fields) in
-      map_push (λ f. f.items) kept f ∙ ap (λ (xs : List (List ℕ)). xs ++ f.items ∷ []) (is ∙ take_all 6 fields (omega arith))
-      ∙ sym (take_all 6 (fields ++ f.items ∷ []) (omega (arith, length-append fields (f.items ∷ []))))
-
-  pub kept-full : (f : List ℕ) → 6 ≤ length kept → bytes_of kept ≡ take 6 (fields ++ f ∷ [])
-  kept-full f full = is ∙ sym (take-append-le 6 fields (f ∷ []) (omega (arith, kept-length, length-take 6 fields)))
-
-pub count-more : (count : ℕ) (fields : List (List ℕ)) (f : List ℕ) → count ≡ length fields → count + 1 ≡ length (fields ++ f ∷ [])
-count-more count fields f is = omega (arith, is, length-append fields (f ∷ []))
 
 -- ---- one byte
 

@@ -1,36 +1,19 @@
 -- Proves that reading the rows of a file one by one finds the rows of a record.
-use Rattle.std.proofs.Common.{◌≡◌, ◌≤◌, ◌<◌, ◌+◌, ℕ, List, [], ◌∷◌, ◌++◌, length, Option, Some, None, Ok, refl, sym, subst, ap, ◌∙◌, arith, append-nil}
+use Rattle.std.proofs.Common.{◌≡◌, ◌≤◌, ◌<◌, ◌+◌, ℕ, List, [], ◌∷◌, ◌++◌, length, Some, Ok, refl, sym, subst, ap, ◌∙◌, arith, append-nil}
 use Rattle.std.proofs.lemmas.List.{append_assoc, length-append}
 use Rattle.std.proofs.lemmas.List.Elements.{All-nil, All-push}
 use Rattle.store_data.specs.Sequence.{IsRow}
 use Rattle.store_data.specs.declared.row.Row.{Row}
-use Rattle.batch_import.specs.Batch.{Coming, no_more}
-use Rattle.batch_import.specs.Rows.{IsDue, Left, TakesRow, fault_only, row_then}
+use Rattle.batch_import.specs.Batch.{Coming}
+use Rattle.batch_import.specs.Rows.{Left}
 use Rattle.batch_import.specs.Walks.{HasFewRows, coming_count, rows_then}
 use Rattle.batch_import.specs.declared.fault.ImportFault.TheVariants as fault
-use Rattle.batch_import.specs.declared.fault.RowFault.{RowFault}
 use Rattle.import_causes.specs.Causes.{Numbered}
 use Rattle.import_causes.specs.Pairs.{rows_named, with_named}
 use Rattle.import_causes.specs.Walks.{Advances, AreRanked, IsWalked}
 use Rattle.import_causes.proofs.PairLemmas.{named-push, named-ranked}
 
 -- ---- one read
-
-pub taken-next : (old new : Left) (more : Coming) (o : Option Row) → old ≡ Ok more → TakesRow old (Ok o) new → Advances more o new
-taken-next old new more (Some row) is (rest, was, now) =
-    let both : Ok more ≡ Ok (row_then row rest) = sym is ∙ was in
-    let same : more ≡ row_then row rest = cc in
-    (rest, same, now)
-taken-next old new more None is (was, now) =
-    let both : Ok more ≡ Ok no_more = sym is ∙ was in
-    let same : more ≡ no_more = cc in
-    ap (λ (c : Coming). c.rows) same
-
--- no row is returned after a fault
-pub due-none : (old : Left) (more : Coming) (f : RowFault) → old ≡ Ok more → IsDue old (fault.At f) → more.rows ≡ []
-due-none old more f is due =
-    let here : more ≡ fault_only f = subst (λ (l : Left). IsDue l (fault.At f)) is due in
-    ap (λ (c : Coming). c.rows) here
 
 -- after a row was returned, fewer rows are to come
 pub fewer : (left next : Left) (more : Coming) (row : Row) → left ≡ Ok more → Advances more (Some row) next → coming_count next < coming_count left

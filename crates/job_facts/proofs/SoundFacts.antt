@@ -22,7 +22,8 @@ use Rattle.job_facts.specs.declared.facts.Lot.{Lot}
 use Rattle.job_facts.specs.declared.facts.SessionState.{SessionState}
 use Rattle.job_facts.specs.declared.facts.RecordState.TheVariants.{Failed, Waiting}
 use Rattle.job_facts.specs.Facts.{Batch, Facts, RecordName, Session, no_facts, with_batch, with_close, with_discard, with_lot, with_product, with_remake, with_withdrawal}
-use Rattle.job_facts.specs.States.{any_overlaps, batch_named, commands_for, commands_under, is_batch_finished, is_charged, is_closed, is_finished, is_in, is_record, is_running, is_spoiled, is_withdrawn, lot_named, lot_of, overlaps, plan_for, product_named, record_state, record_state_of, records_named, records_of, records_under, remakes_of, rows_of, rows_of_record, rows_under, session_state, state_by, state_with, states_of}
+use Rattle.job_facts.specs.States.{any_overlaps, batch_named, commands_for, commands_under, is_batch_finished, is_charged, is_closed, is_finished, is_in, is_record, is_running, is_spoiled, is_withdrawn, lot_named, lot_of, overlaps}
+use Rattle.job_facts.specs.States.{plan_for, product_named, record_state, record_state_of, records_named, records_of, records_under, remakes_of, rows_of, rows_of_record, rows_under, session_state, state_by, state_with, states_of}
 use Rattle.job_facts.specs.Sound.{AreApart, AreBatches, AreLots, AreProducts, AreSessions, AreStates, AreWords, IsBatch, IsLot, IsName, IsRecord, IsSession, IsSound, IsSoundRecord, charges, has_card, runs_on}
 use Rattle.job_facts.proofs.Lists.{count_by_same, find-All, find_kept, list_all_same, map_same, named_once_push}
 use Rattle.job_facts.proofs.RecordLemmas.{open_parts}

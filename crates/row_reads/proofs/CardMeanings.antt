@@ -3,7 +3,8 @@ use Rattle.std.proofs.Common.{List, ℕ, true, false, [], ◌∷◌, codes, refl
 use Rattle.sqlite.specs.Listing.{understood}
 use Rattle.sqlite.specs.Term.{col}
 use Rattle.sqlite_tied.specs.Compute.{everything}
-use Rattle.row_reads.specs.CardTexts.{by_batch, by_batch_and_name, by_batch_and_place, by_good_batch, by_id, by_running_machine, by_segment, by_waiting_batch, coded_columns, coded_text, good_columns, good_text, grouping_count_text, groupings_text, last_session_text, limit_one, more_grouping_columns, more_record_columns, no_limit, record_at_text, record_columns, record_named_text, records_text, running_columns, running_text, session_columns, session_text, waiting_text}
+use Rattle.row_reads.specs.CardTexts.{by_batch, by_batch_and_name, by_batch_and_place, by_good_batch, by_id, by_running_machine, by_segment, by_waiting_batch, coded_columns, coded_text, good_columns, good_text, grouping_count_text, groupings_text, last_session_text}
+use Rattle.row_reads.specs.CardTexts.{limit_one, more_grouping_columns, more_record_columns, no_limit, record_at_text, record_columns, record_named_text, records_text, running_columns, running_text, session_columns, session_text, waiting_text}
 use Rattle.row_reads.specs.NameTexts.{by_two_columns}
 use Rattle.row_reads.proofs.Asking.{Asks}
 use Rattle.row_reads.proofs.Sorting.{AsksSorted}

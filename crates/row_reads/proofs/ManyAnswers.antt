@@ -26,7 +26,8 @@ use Rattle.sql_rows.specs.Image.{IsImage}
 use Rattle.sql_rows.proofs.OneImage.{enc_back, flag_back}
 use Rattle.row_reads.specs.declared.records.RecordAt.{RecordAt}
 use Rattle.row_reads.specs.CardDecoding.{coded_at, coded_in, coded_line, good_at, good_in, grouping_at, grouping_in, is_of_segment, line_of, place_of, record_at, record_in}
-use Rattle.row_reads.specs.CardTexts.{by_batch, by_batch_and_place, by_good_batch, by_segment, by_waiting_batch, coded_columns, coded_text, good_columns, good_text, grouping_count_text, groupings_text, last_session_text, limit_one, more_grouping_columns, more_record_columns, no_limit, record_columns, records_text, waiting_text}
+use Rattle.row_reads.specs.CardTexts.{by_batch, by_batch_and_place, by_good_batch, by_segment, by_waiting_batch, coded_columns, coded_text, good_columns, good_text, grouping_count_text}
+use Rattle.row_reads.specs.CardTexts.{groupings_text, last_session_text, limit_one, more_grouping_columns, more_record_columns, no_limit, record_columns, records_text, waiting_text}
 use Rattle.row_reads.specs.Decoding.{IsFirst, first_number}
 use Rattle.row_reads.specs.Extremes.{AreSorted, IsGreatest, IsLeastBy}
 use Rattle.row_reads.proofs.Answering.{int_key}

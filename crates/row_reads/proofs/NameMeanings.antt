@@ -5,7 +5,8 @@ use Rattle.sqlite.specs.Term.{col}
 use Rattle.sqlite_tied.specs.Compute.{everything}
 use Rattle.row_reads.specs.Texts.{by_first_column}
 use Rattle.row_reads.specs.CardTexts.{limit_one}
-use Rattle.row_reads.specs.NameTexts.{by_low_serial, last_lot_text, more_lot_columns, last_batch_text, batches_of_text, by_batch_product, charged_text, first_column, lot_names_text, products_text, lot_columns, lot_row_columns, lot_text, lots_of_text, lots_text, by_second_column, batch_has_text, batch_head_text, batch_by_name_text, id_columns, batch_id_text, batch_name_columns, batch_name_text, by_batch_name, by_bytes, by_id, by_id_in_order, by_two_columns, head_columns, kept_columns, kept_text, batch_at_columns}
+use Rattle.row_reads.specs.NameTexts.{by_low_serial, last_lot_text, more_lot_columns, last_batch_text, batches_of_text, by_batch_product, charged_text, first_column, lot_names_text, products_text, lot_columns, lot_row_columns, lot_text, lots_of_text, lots_text, by_second_column}
+use Rattle.row_reads.specs.NameTexts.{batch_has_text, batch_head_text, batch_by_name_text, id_columns, batch_id_text, batch_name_columns, batch_name_text, by_batch_name, by_bytes, by_id, by_id_in_order, by_two_columns, head_columns, kept_columns, kept_text, batch_at_columns}
 use Rattle.row_reads.proofs.Asking.{Asks}
 use Rattle.row_reads.proofs.Sorting.{AsksSorted}
 

@@ -14,7 +14,8 @@ use Rattle.sql_base.proofs.Selecting.{passes, shown}
 use Rattle.sql_tables.specs.Tables.{our_schema}
 use Rattle.sql_tables.proofs.VersionRow.{none_acts}
 use Rattle.row_writes.specs.Texts.{by_id, set_session_query, set_session_text}
-use Rattle.row_writes.specs.Changes.{by_client_up_to, by_first_column, by_place, by_second_column, drop_mark_text, drop_replies_text, rowid_column, set_closed_columns, set_closed_text, set_end_columns, set_end_text, set_lot_columns, set_lot_text, set_raw_columns, set_raw_text, set_record_columns, set_record_text, set_totals_columns, set_totals_text}
+use Rattle.row_writes.specs.Changes.{by_client_up_to, by_first_column, by_place, by_second_column, drop_mark_text, drop_replies_text, rowid_column, set_closed_columns, set_closed_text, set_end_columns}
+use Rattle.row_writes.specs.Changes.{set_end_text, set_lot_columns, set_lot_text, set_raw_columns, set_raw_text, set_record_columns, set_record_text, set_totals_columns, set_totals_text}
 use Rattle.row_writes.proofs.Meanings.{Means, read_as}
 
 pub record ChangesMean : Type 0 where

@@ -11,7 +11,8 @@ use Rattle.job_facts.specs.declared.facts.Lot.{Lot}
 use Rattle.job_facts.specs.Contents.{AreSameFacts}
 use Rattle.job_facts.specs.Facts.{Batch, Facts, Session}
 use Rattle.job_facts.specs.Sound.{IsSound}
-use Rattle.job_facts.specs.States.{any_overlaps, batch_named, command_at, command_bytes, commands_for, commands_under, first_waiting, is_batch_finished, is_charged, is_closed, is_finished, is_in, is_record, is_running, is_waiting, lot_named, lot_of, numbered, overlaps, plan_for, product_named, record_state, record_state_of, records_named, records_of, records_under, rows_of, rows_of_record, rows_under, running_session, session_numbered, session_state, state_by, state_with, states_of}
+use Rattle.job_facts.specs.States.{any_overlaps, batch_named, command_at, command_bytes, commands_for, commands_under, first_waiting, is_batch_finished, is_charged, is_closed, is_finished, is_in, is_record, is_running, is_waiting, lot_named, lot_of, numbered, overlaps}
+use Rattle.job_facts.specs.States.{plan_for, product_named, record_state, record_state_of, records_named, records_of, records_under, rows_of, rows_of_record, rows_under, running_session, session_numbered, session_state, state_by, state_with, states_of}
 use Rattle.step_laws.proofs.BlankSums.{apart_once, named_once}
 use Rattle.step_laws.proofs.Permuted.{at_most_one, count_moved, find_moved}
 

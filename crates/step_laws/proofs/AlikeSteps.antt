@@ -21,7 +21,8 @@ use Rattle.job_facts.specs.Contents.{AreSameFacts}
 use Rattle.job_facts.specs.Facts.{Batch, Facts, Session, at_session, ended, new_session, worded, with_batch, with_close, with_discard, with_end, with_lot, with_product, with_remake, with_withdrawal}
 use Rattle.job_facts.specs.Sound.{IsSound}
 use Rattle.job_facts.specs.States.{any_overlaps, batch_named, command_bytes, first_waiting, goes_at, is_batch_finished, is_charged, is_closed, is_running, lot_named, lot_of, product_named, record_state_of, running_session, session_numbered, session_state}
-use Rattle.job_facts.specs.Steps.{Outcome, by_option, in_batch, in_record, in_session, new_batch, new_lot, opened, refused, remade, same_batch, same_lot, same_product, step, step_answer, step_close, step_discard, step_import, step_lot, step_open, step_product, step_reset, take_word, taken_in, withdrawn}
+use Rattle.job_facts.specs.Steps.{Outcome, by_option, in_batch, in_record, in_session, new_batch, new_lot, opened, refused, remade, same_batch, same_lot, same_product, step}
+use Rattle.job_facts.specs.Steps.{step_answer, step_close, step_discard, step_import, step_lot, step_open, step_product, step_reset, take_word, taken_in, withdrawn}
 use Rattle.step_laws.specs.Alike.{AreAlike}
 use Rattle.step_laws.proofs.AlikeReads as reads
 
@@ -85,7 +86,14 @@ module _ (f g : Facts) (sound : IsSound f) (same : AreSameFacts f g) where
       (λ kept. if_alike (same_lot kept l) (same_lot kept l) _ _ _ _ refl (stays _ _ refl) (refuses _))
 
   taken_alike : (b p raw : List ℕ) (read : Result (List Row) RowFault) → AreAlike (taken_in f b p raw read) (taken_in g b p raw read)
-  taken_alike b p raw (Ok rows) = record { reply = refl; facts = facts_of (with_batch f (record { name = b; product = p; raw = raw })) (with_batch g (record { name = b; product = p; raw = raw })) same.products same.lots (ap (λ bs. bs ++ record { name = b; product = p; raw = raw } ∷ []) same.batches) same.sessions same.discarded same.remakes same.withdrawn same.closed }
+  taken_alike b p raw (Ok rows) =
+      let new : Batch = record { name = b; product = p; raw = raw } in
+      record {
+        reply = refl;
+        facts =
+            facts_of (with_batch f new) (with_batch g new) same.products same.lots (ap (λ bs. bs ++ new ∷ []) same.batches)
+            same.sessions same.discarded same.remakes same.withdrawn same.closed;
+      }
   taken_alike b p raw (Err fault) = stays _ _ refl
 
   new_batch_alike : (b p raw : List ℕ) → AreAlike (new_batch f b p raw) (new_batch g b p raw)
@@ -170,14 +178,26 @@ module _ (f g : Facts) (sound : IsSound f) (same : AreSameFacts f g) where
       by_alike (record_state_of f b r) (record_state_of g b r) _ _ _ _ (reads.stands_alike f g sound same b r) (refuses _) each)
 
   remade_alike : (b r : List ℕ) (state : RecordState) → AreAlike (remade f b r state) (remade g b r state)
-  remade_alike b r rec.Failed = record { reply = refl; facts = facts_of (with_remake f b r) (with_remake g b r) same.products same.lots same.batches same.sessions same.discarded (IsPermutation-append_left (record { batch = b; rec = r } ∷ []) f.remakes g.remakes same.remakes) same.withdrawn same.closed }
+  remade_alike b r rec.Failed =
+      record {
+        reply = refl;
+        facts =
+            facts_of (with_remake f b r) (with_remake g b r) same.products same.lots same.batches same.sessions same.discarded
+            (IsPermutation-append_left (record { batch = b; rec = r } ∷ []) f.remakes g.remakes same.remakes) same.withdrawn same.closed;
+      }
   remade_alike b r rec.Waiting = refuses _
   remade_alike b r rec.Running = refuses _
   remade_alike b r rec.Withdrawn = refuses _
   remade_alike b r rec.Good = refuses _
 
   more_withdrawn : (b r : List ℕ) → AreAlike (with_withdrawal f b r, reply.Withdrawn b r) (with_withdrawal g b r, reply.Withdrawn b r)
-  more_withdrawn b r = record { reply = refl; facts = facts_of (with_withdrawal f b r) (with_withdrawal g b r) same.products same.lots same.batches same.sessions same.discarded same.remakes (IsPermutation-append_left (record { batch = b; rec = r } ∷ []) f.withdrawn g.withdrawn same.withdrawn) same.closed }
+  more_withdrawn b r =
+      record {
+        reply = refl;
+        facts =
+            facts_of (with_withdrawal f b r) (with_withdrawal g b r) same.products same.lots same.batches same.sessions same.discarded same.remakes
+            (IsPermutation-append_left (record { batch = b; rec = r } ∷ []) f.withdrawn g.withdrawn same.withdrawn) same.closed;
+      }
 
   withdrawn_alike : (b r : List ℕ) (state : RecordState) → AreAlike (withdrawn f b r state) (withdrawn g b r state)
   withdrawn_alike b r rec.Waiting = more_withdrawn b r

@@ -22,7 +22,8 @@ use Rattle.job_facts.specs.declared.request.Request.{Request}
 use Rattle.job_facts.specs.declared.request.Request.TheVariants as request
 use Rattle.job_facts.specs.Facts.{Batch, Facts, Session, at_session, ended, new_session, with_end, with_remake, with_session, with_withdrawal, with_word, worded}
 use Rattle.job_facts.specs.Sound.{IsRecord, IsSound, IsSoundRecord, has_card, runs_on}
-use Rattle.job_facts.specs.States.{command_bytes, commands_for, first_waiting, goes_at, is_charged, is_record, is_running, is_spoiled, is_waiting, is_withdrawn, last_stops, product_named, record_state, record_state_of, records_named, remakes_of, rows_of, rows_or_none, rows_under, running_session, session_state, state_by, states_of}
+use Rattle.job_facts.specs.States.{command_bytes, commands_for, first_waiting, goes_at, is_charged, is_record, is_running, is_spoiled, is_waiting, is_withdrawn, last_stops, product_named}
+use Rattle.job_facts.specs.States.{record_state, record_state_of, records_named, remakes_of, rows_of, rows_or_none, rows_under, running_session, session_state, state_by, states_of}
 use Rattle.job_facts.specs.Steps.{opened, step, take_word}
 use Rattle.job_facts.proofs.Lists.{found_among, list_any-there}
 use Rattle.job_facts.proofs.RecordLemmas.{open_parts, record_opened}

@@ -75,25 +75,10 @@ pub reads : {T : Type 0} (a b : State) (r : Result T Error) (Q : Tables → T �
 reads a b (Ok x) Q P rows law = shown a b (λ t. Q t x) (λ c. P c x) rows (λ c sound. law c sound x)
 reads a b (Err e) Q P rows law = λ clean. tt
 
--- a read of what the first read found, whose result is returned
-pub reads_then : {T : Type 0} (a b c : State) (r : Result T Error) (P : Contents → Type 0) (Q R : Contents → T → Type 0) → Looks a b → Looks b c → (HasCleanDisk b → Shows a P) → ReadsContents b c r Q
-    → ((d : Contents) → AreSound d → (x : T) → P d → Q d x → R d x) → ReadsContents a c r R
-reads_then a b c (Ok x) P Q R one two first second law = shown_then a b c P (λ d. Q d x) (λ d. R d x) one two first second (λ d sound. law d sound x)
-reads_then a b c (Err e) P Q R one two first second law = λ clean. tt
-
 -- a consequence of a result
 pub if_ok : {T : Type 0} (r : Result T Error) (P Q : T → Type 0) → ((x : T) → P x → Q x) → IfOk r P → IfOk r Q
 if_ok (Ok x) P Q then as_read = then x as_read
 if_ok (Err e) P Q then as_read = tt
-
--- a read after one whose result isn't used
-pub reads_later : {T : Type 0} (a b c : State) (r : Result T Error) (P : Contents → T → Type 0) → Looks a b → Looks b c → ReadsContents b c r P → ReadsContents a c r P
-reads_later a b c (Err e) P one two as_read = λ clean. tt
-reads_later a b c (Ok x) P one two as_read = λ clean.
-    let early : HasCleanDisk b = omega (arith, clean, two.survives.clean) in
-    let k = one.kept early in
-    let p = as_read clean in
-    (k.was_open p.0, λ d sound is. p.1 d sound (subst (IsImage (image d)) (sym (k.now_is p.0)) is))
 
 -- two reads show a fact about the rows together
 pub rows_then : (a b c : State) (P Q R : Tables → Type 0) → Looks a b → Looks b c → (HasCleanDisk b → ShowsRows a P) → (HasCleanDisk c → ShowsRows b Q) → ((t : Tables) → P t → Q t → R t)
@@ -109,13 +94,3 @@ rows_as a b P Q shows law clean = let s = shows clean in (s.0, λ t is. law t (s
 
 pub rows_both : (a b c : State) (P Q : Tables → Type 0) → Looks a b → Looks b c → (HasCleanDisk b → ShowsRows a P) → (HasCleanDisk c → ShowsRows b Q) → HasCleanDisk c → ShowsRows a (λ t. P t × Q t)
 rows_both a b c P Q one two first second = rows_then a b c P Q (λ t. P t × Q t) one two first second (λ t p q. (p, q))
-
--- a read of rows after one whose result isn't used
-pub rows_later : {T : Type 0} (a b c : State) (r : Result T Error) (P Q : Tables → T → Type 0) → Looks a b → Looks b c → (HasCleanDisk c → IfOk r (λ x. ShowsRows b (λ t. P t x)))
-    → ((t : Tables) (x : T) → P t x → Q t x) → HasCleanDisk c → IfOk r (λ x. ShowsRows a (λ t. Q t x))
-rows_later a b c (Err e) P Q one two as_read law = λ clean. tt
-rows_later a b c (Ok x) P Q one two as_read law = λ clean.
-    let early : HasCleanDisk b = omega (arith, clean, two.survives.clean) in
-    let k = one.kept early in
-    let p = as_read clean in
-    (k.was_open p.0, λ t is. law t x (p.1 t (subst (IsImage t) (sym (k.now_is p.0)) is)))

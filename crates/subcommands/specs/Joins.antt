@@ -12,6 +12,7 @@ use Rattle.event_lines.specs.Lines.{number_pair, pair, quoted_pair}
 use Rattle.file_causes.specs.Words.{damage_word}
 use Rattle.job_facts.specs.declared.store.StoreFault.{StoreFault}
 use Rattle.over_tables.specs.Causes.{commits_in, name_in, word_of}
+use Rattle.over_tables.specs.declared.cause.Cause.{Cause}
 use Rattle.over_tables.specs.declared.fault.FileFault.{FileFault}
 use Rattle.over_tables.specs.declared.fault.FileFault.TheVariants as file
 use Rattle.subcommands.specs.Ends.{end_of_store}
@@ -72,15 +73,22 @@ abbrev pub commits_pair : Option ℕ → List ℕ
 commits_pair None = []
 commits_pair (Some commits) = number_pair (codes "commits") commits
 
-abbrev pub refusal_line : ℕ → List ℕ → Option ℕ → Option (List ℕ) → List ℕ → List ℕ
-refusal_line code cause commits table path =
-    codes "refused" ++ number_pair (codes "code") code ++ pair (codes "cause") cause
-    ++ commits_pair commits ++ table_pair table ++ quoted_pair (codes "db") path
+-- the start of the line: the code of the refusal and the cause
+abbrev pub refusal_start : ℕ → List ℕ → List ℕ
+refusal_start code cause = codes "refused" ++ number_pair (codes "code") code ++ pair (codes "cause") cause
+
+-- the line for tables that aren't those of a schema version
+abbrev pub not_ours_line : Cause → List ℕ → List ℕ
+not_ours_line cause path =
+    refusal_start 81 (word_of cause) ++ commits_pair (commits_in cause) ++ table_pair (name_in cause)
+    ++ quoted_pair (codes "db") path
+
+-- the line for rows that don't represent sound contents
+abbrev pub damaged_line : List ℕ → List ℕ → List ℕ
+damaged_line cause path = refusal_start 82 cause ++ quoted_pair (codes "db") path
 
 abbrev pub refusal_lines : FileFault → List ℕ → List (List ℕ)
-refusal_lines (file.NotOurs cause) path =
-    refusal_line 81 (word_of cause) (commits_in cause) (name_in cause) path ∷ []
-refusal_lines (file.Damaged cause) path =
-    refusal_line 82 (damage_word cause) None None path ∷ []
+refusal_lines (file.NotOurs cause) path = not_ours_line cause path ∷ []
+refusal_lines (file.Damaged cause) path = damaged_line (damage_word cause) path ∷ []
 refusal_lines file.Storage path = []
 refusal_lines file.Memory path = []

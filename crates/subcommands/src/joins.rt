@@ -3,13 +3,14 @@ ghost use Rattle.std.specs.Prelude.{◌≡◌, ◌++◌, IfOk, option_map};
 ghost use Rattle.event_lines.specs.Notes.{NotesAll};
 ghost use Rattle.event_lines.specs.Views.{text_of};
 ghost use Rattle.subcommands.specs.Joins.{Explains, commits_pair, end_of_close, level_by};
-ghost use Rattle.subcommands.specs.Joins.{refusal_line, refusal_lines, table_pair, wanted_of};
+ghost use Rattle.subcommands.specs.Joins.{damaged_line, not_ours_line, refusal_lines};
+ghost use Rattle.subcommands.specs.Joins.{refusal_start, table_pair, wanted_of};
 
 use crate::end::End;
 use arguments::{Words, WordsFault};
 use event_lines::{EventLine, EventLog, Level, level_of};
 use job_facts::StoreFault;
-use over_tables::{DAMAGED, FileFault, NOT_OURS, Wanted};
+use over_tables::{Cause, DAMAGED, FileFault, NOT_OURS, Wanted};
 use std::alloc::{AllocError, Global};
 use std::env::VarError;
 use std::io::Write;
@@ -85,33 +86,33 @@ pub fn note_refusal<E: Write + Drop>(
         (E.contents events.new.writer) (refusal_lines fault.now path.now) }
 {
     match fault {
-        FileFault::NotOurs { cause } => {
-            let (word, commits) = (cause.word(), cause.commits());
-            let line = refusal_line(alloc, NOT_OURS, word, commits, cause.name(), path);
-            events.note(line);
-        }
-        FileFault::Damaged { cause } => {
-            events.note(refusal_line(alloc, DAMAGED, cause.word(), None, None, path));
-        }
+        FileFault::NotOurs { cause } => events.note(not_ours_line(alloc, cause, path)),
+        FileFault::Damaged { cause } => events.note(damaged_line(alloc, cause.word(), path)),
         FileFault::Storage | FileFault::Memory => (),
     }
 }
 
-fn refusal_line(
-    alloc: Global,
-    code: u16,
-    cause: &str,
-    commits: Option<u64>,
-    table: Option<&[u8]>,
-    path: &[u8],
-) -> Result<EventLine, AllocError>
-    ensures { IfOk result (λ line. text_of line ≡ refusal_line code cause.now commits
-        (option_map (λ name. name.now) table.entry) path.now) }
+fn not_ours_line(alloc: Global, cause: &Cause, path: &[u8]) -> Result<EventLine, AllocError>
+    ensures { IfOk result (λ line. text_of line ≡ not_ours_line cause.now path.now) }
 {
-    let line = EventLine::new(alloc, "refused")?
+    let line = refusal_start(alloc, NOT_OURS, cause.word())?;
+    let line = with_commits(line, cause.commits())?;
+    with_table(line, cause.name())?.quoted("db", path)
+}
+
+fn damaged_line(alloc: Global, cause: &str, path: &[u8]) -> Result<EventLine, AllocError>
+    ensures { IfOk result (λ line. text_of line ≡ damaged_line cause.now path.now) }
+{
+    refusal_start(alloc, DAMAGED, cause)?.quoted("db", path)
+}
+
+// Returns the start of the line: the code of the refusal and the cause.
+fn refusal_start(alloc: Global, code: u16, cause: &str) -> Result<EventLine, AllocError>
+    ensures { IfOk result (λ line. text_of line ≡ refusal_start code cause.now) }
+{
+    EventLine::new(alloc, "refused")?
         .number("code", u64::from(code))?
-        .word("cause", cause)?;
-    with_table(with_commits(line, commits)?, table)?.quoted("db", path)
+        .word("cause", cause)
 }
 
 // Adds the number of commits, if there is one.

@@ -218,26 +218,33 @@ fn check_again<S: Alter + Drop>(
     Ok(())
 }
 
-// Checks that a database has the rows after the completed steps, or after one more step. If
-// `sends_again` is true, it then creates the tables in an empty database, or opens the store of any
-// other database, and repeats the run.
+// A run that met a stop after `answered` completed steps. It is then repeated if `sends_again` is
+// true.
+#[derive(Clone, Copy)]
+struct Stopped<'a> {
+    run: &'a Run,
+    answered: usize,
+    sends_again: bool,
+}
+
+// Checks that a database has the rows after the completed steps, or after one more step. If the run
+// is repeated, it then creates the tables in an empty database, or opens the store of any other
+// database.
 fn check_over<S: Alter + Drop>(
     rt: &impl Abort,
     alloc: Global,
-    run: &Run,
-    answered: usize,
-    sends_again: bool,
+    stopped: &Stopped<'_>,
     mut conn: Connection<S>,
 ) -> Result<(), Fail> {
-    let steps = steps_of(rt, alloc, run, answered, &mut conn)?;
-    if !sends_again {
+    let steps = steps_of(rt, alloc, stopped.run, stopped.answered, &mut conn)?;
+    if !stopped.sends_again {
         return Ok(());
     }
     if steps > 0 {
-        return check_again(rt, alloc, run, steps, adopted(alloc, conn)?);
+        return check_again(rt, alloc, stopped.run, steps, adopted(alloc, conn)?);
     }
     match created(alloc, conn) {
-        Ok(store) => check_again(rt, alloc, run, steps, store),
+        Ok(store) => check_again(rt, alloc, stopped.run, steps, store),
         Err(_) => Err(Fail::new("no tables are made")),
     }
 }
@@ -246,13 +253,11 @@ fn check_over<S: Alter + Drop>(
 fn check_left(
     rt: &impl Abort,
     alloc: Global,
-    run: &Run,
-    answered: usize,
-    sends_again: bool,
+    stopped: &Stopped<'_>,
     left: &Left,
 ) -> Result<(), Fail> {
     match open(alloc, left, NO_STOP) {
-        Ok(conn) => check_over(rt, alloc, run, answered, sends_again, conn),
+        Ok(conn) => check_over(rt, alloc, stopped, conn),
         Err(_) => Err(Fail::new("what is left isn't opened")),
     }
 }
@@ -278,7 +283,12 @@ fn has_met(rt: &impl Abort, alloc: Global, run: &Run, stop: Stop) -> Result<bool
     let exchanges = run.exchanges.as_slice();
     let made = steps_before_stop(rt, alloc, exchanges, stop)?;
     for (place, left) in made.ended.lefts.iter().enumerate() {
-        check_left(rt, alloc, run, made.steps, place == 0, left)?;
+        let stopped = Stopped {
+            run,
+            answered: made.steps,
+            sends_again: place == 0,
+        };
+        check_left(rt, alloc, &stopped, left)?;
     }
     Ok(made.steps <= exchanges.len() || !made.ended.is_closed)
 }

@@ -280,7 +280,8 @@ body_is_low (Import b records made rows) h =
     simp (escape_plain b (name_plain b h.0), escape_plain (made_name made) (made_plain made), append_assoc) (simp (list_all-append, name_is_low b h.0, decimal_is_low records first, made_is_low made, decimal_is_low rows second))
 body_is_low (Opened b blank command r s) h =
     let none : 0 < 2 ^ 64 = omega arith in
-    simp (escape_plain b (name_plain b h.0), escape_plain (encode_upper command) (hex_plain command h.2), escape_plain r (name_plain r h.3), append_assoc) (simp (list_all-append, name_is_low b h.0, decimal_is_low blank h.1, decimal_is_low 0 none, plain_is_low (encode_upper command) (hex_plain command h.2), name_is_low r h.3, decimal_is_low s h.4))
+    simp (escape_plain b (name_plain b h.0), escape_plain (encode_upper command) (hex_plain command h.2), escape_plain r (name_plain r h.3), append_assoc)
+    (simp (list_all-append, name_is_low b h.0, decimal_is_low blank h.1, decimal_is_low 0 none, plain_is_low (encode_upper command) (hex_plain command h.2), name_is_low r h.3, decimal_is_low s h.4))
 body_is_low (Next command k s) h = simp (escape_plain (encode_upper command) (hex_plain command h.0), append_assoc) (simp (list_all-append, plain_is_low (encode_upper command) (hex_plain command h.0), decimal_is_low k h.1, decimal_is_low s h.2))
 body_is_low (Good s) h = simp (list_all-append, decimal_is_low s h)
 body_is_low (Spoiled s) h = simp (list_all-append, decimal_is_low s h)

@@ -147,7 +147,8 @@ unfolding body_of encode_with serde_json_on_literals
 body_is_short (Job (request.Product p)) h s other =
     simp (escape_plain p.code (name_plain p.code h), append_assoc) (simp length-append (omega (arith, flag_is_short p.check, decimal_is_short p.low (omega (arith, s.low)), decimal_is_short p.max (omega (arith, s.most)), name_is_short p.code h)))
 body_is_short (Job (request.Lot l)) h s other =
-    simp (escape_plain l.name (name_plain l.name h.0), escape_plain l.product (name_plain l.product h.1), append_assoc) (simp length-append (omega (arith, decimal_is_short l.count (omega (arith, s.most)), decimal_is_short l.first (omega (arith, s.range)), name_is_short l.name h.0, name_is_short l.product h.1)))
+    simp (escape_plain l.name (name_plain l.name h.0), escape_plain l.product (name_plain l.product h.1), append_assoc)
+    (simp length-append (omega (arith, decimal_is_short l.count (omega (arith, s.most)), decimal_is_short l.first (omega (arith, s.range)), name_is_short l.name h.0, name_is_short l.product h.1)))
 body_is_short (Job (request.Import b p raw)) h s other = absurd (other b p raw refl)
 body_is_short (Job (request.Open b blank)) h s other = simp (escape_plain b (name_plain b h), append_assoc) (simp length-append (omega (arith, name_is_short b h, decimal_is_short blank (omega (arith, s)))))
 body_is_short (Job (request.Answer n k sw)) h s other = simp (escape_plain (word_text sw) (word_is_plain sw (omega (arith, s.3))), append_assoc) (simp length-append (omega (arith, decimal_is_short k (omega (arith, s.2)), decimal_is_short n (omega (arith, s.1)))))

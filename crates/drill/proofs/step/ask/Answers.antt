@@ -1,5 +1,6 @@
 use Rattle.std.proofs.Common.{◌∙◌, ◌++◌, ℕ, List, Option, Some, ap, drop, false, map, refl, sym}
 use Rattle.drill.specs.Floors.{Floor}
+use Rattle.drill.specs.Scripts.{asked, shown}
 use Rattle.drill.specs.Steps.{Did, reply_line}
 use Rattle.drill.proofs.LineLemmas.{asks_by}
 use Rattle.drill.proofs.ScriptLemmas.{text_of}
@@ -12,7 +13,7 @@ pub returns-clause-asks : goal.returns-clause-asks
 unfolding asked_did
 returns-clause-asks g c = λ fl.
     let behind = map text_of c.args.behind.now in
-    asks_by g.S.JobStore.state c.args.store.now c.serve.new.store fl c.args.line.now behind c.in-Some.message.items (drop c.in-Some.taken behind) _
+    asks_by g.S.JobStore.state c.args.store.now c.serve.new.store fl behind (asked (shown c.args.step) behind) c.in-Some.message.items (drop c.in-Some.taken behind) _
     (sym (rw c.in-Some.is at c.in_ok-message.ensures.value)) (
       c.in_ok-reply.reply.items,
       c.in-Some.taken,

@@ -10,6 +10,8 @@ pub returns-clause-finds : goal.returns-clause-finds
 returns-clause-finds g c = record {
   found =
       list_answered g.S.Store c.args.conn.now c.all_of.new.conn (λ v. v.items) (map coded_in) _ _ c.all_of.result
-      (λ t. AreSorted coded_line (map coded_at (filter (is_of_segment c.args.batch c.args.place c.args.aid.now c.args.rank) t.groupings))) (rw (c.int.ensures, c.int-2.ensures, c.bytes.ensures.value, c.int-3.ensures, c.from.ensures) at c.all_of.ensures.answered) (coded_found c.args.batch c.args.place c.args.aid.now c.args.rank _);
+      (λ t. AreSorted coded_line (map coded_at (filter (is_of_segment c.args.batch c.args.place c.args.aid.now c.args.rank) t.groupings)))
+      (rw (c.int.ensures, c.int-2.ensures, c.bytes.ensures.value, c.int-3.ensures, c.from.ensures) at c.all_of.ensures.answered)
+      (coded_found c.args.batch c.args.place c.args.aid.now c.args.rank _);
   looks = c.all_of.ensures.looks;
 }
