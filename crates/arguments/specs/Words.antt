@@ -5,7 +5,10 @@ use Rattle.std.specs.Prelude.{Option, Some, pos, true, false, string_bytes}
 use Rattle.std.specs.Str.Parse.{IsNumeral, digits_value, without_leading_plus}
 use Rattle.clap.specs.Words.{App, IsAmong, Kinds, Row, Rule, Text, new_app, new_rule}
 use Rattle.clap.specs.Words.{first_of, one_of, subcommand_of, with_rule, with_subcommand}
-use Rattle.clap.specs.Words.{fault_of}
+use Rattle.clap.specs.Words.{app_of, fault_of, rule_of}
+use Rattle.clap.specs.declared.builder.arg.Arg.{Arg}
+use Rattle.clap.specs.declared.builder.command.Command.{Command}
+use Rattle.clap.specs.declared.builder.command.Command.TheViews.{out-Command as fields_of}
 use Rattle.clap.specs.Values.{bool_text}
 use Rattle.clap.specs.declared.builder.action.ArgAction.TheVariants.{SetTrue}
 use Rattle.clap.specs.declared.builder.value_parser.ValueParser.{ValueParser}
@@ -25,6 +28,14 @@ use Rattle.arguments.specs.declared.words.WordsFault.TheVariants.{NotText, BadNa
 
 -- ---- the command
 
+-- `c` is the command `app`, and none of its arguments is global
+abbrev pub IsCommand : App → Command → Type 0
+IsCommand app c = (app_of c ≡ app) × ((fields_of c).has_globals ≡ false)
+
+-- `a` is the argument `rule`, and it isn't global
+abbrev pub IsArgument : Rule → Arg → Type 0
+IsArgument rule a = (rule_of a ≡ rule) × (a.global ≡ false)
+
 -- the parser of the numbers from `low` to `high`
 abbrev pub numbers : ℕ → ℕ → ValueParser
 numbers low high = Signed (pos low) (pos high)
@@ -33,9 +44,9 @@ numbers low high = Signed (pos low) (pos high)
 abbrev pub option : Text → Rule
 option name = record (new_rule name) { long = Some name; value_names = 1 }
 
--- `--name WORD`, required
-abbrev pub text_needed : Text → Rule
-text_needed name = record (option name) { required = true }
+-- `--name WORD`, required if `needed` is `true`
+abbrev pub text_rule : Text → Bool → Rule
+text_rule name needed = record (option name) { required = needed }
 
 -- `--name N`
 abbrev pub number_option : Text → ValueParser → Rule
@@ -77,7 +88,7 @@ boot_needed = number_needed (codes "boot") (Unsigned 1 9999999999)
 abbrev pub serve_command : App
 serve_command =
     with_rule (with_rule (with_rule (new_app (codes "serve"))
-    (text_needed (codes "db")))
+    (text_rule (codes "db") true))
     port_needed)
     (number_needed (codes "turns") (numbers 1 1000000))
 
@@ -85,17 +96,17 @@ serve_command =
 abbrev pub report_command : App
 report_command =
     with_rule (with_rule (new_app (codes "report"))
-    (text_needed (codes "db")))
-    (text_needed (codes "batch"))
+    (text_rule (codes "db") true))
+    (text_rule (codes "batch") true)
 
 -- `feed --port N --machine NAME --boot N --batch NAME`
 abbrev pub feed_command : App
 feed_command =
     with_rule (with_rule (with_rule (with_rule (new_app (codes "feed"))
     port_needed)
-    (text_needed (codes "machine")))
+    (text_rule (codes "machine") true))
     boot_needed)
-    (text_needed (codes "batch"))
+    (text_rule (codes "batch") true)
 
 -- command `a` with `--version` and `-V`, and with a required subcommand
 abbrev pub versioned : App → App

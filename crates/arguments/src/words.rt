@@ -1,23 +1,18 @@
 //! Reads the subcommand and its options from the arguments of `persod`.
 ghost use Rattle.std.specs.Prelude.{◌≡◌, ◌≤◌, ◌<◌, ◌^◌, ℕ, [], IfOk, IfErr, IfSome, IsTrue, ◌↔◌};
-ghost use Rattle.std.specs.Prelude.{None, Some, false, map, true};
-ghost use Rattle.clap.specs.Words.{HasKind, HasMatchesOf, Kinds, app_of, fault_of, rule_of};
-ghost use Rattle.clap.specs.Words.{is_simple_and_free};
-ghost use Rattle.clap.specs.declared.builder.command.Command.TheViews.{out-Command as fields_of};
-ghost use Rattle.clap.specs.Words.{found_of, rows_of, subcommand_rows_of};
-ghost use Rattle.arguments.specs.Words.{InRange, IsNumber, IsRefusal, IsRefusedBy, Means};
-ghost use Rattle.arguments.specs.Words.{ReadsAs, ReadsNot, ReadsPlan, ReadsReport, ReadsServe};
-ghost use Rattle.arguments.specs.Words.{FeedsNot, HasName, LacksName, ReadsFeed, ReportsNot};
-ghost use Rattle.arguments.specs.Words.{ServesNot, UsesStreams, drill_command, feed_command};
-ghost use Rattle.arguments.specs.Words.{boot_needed, flag, number_option, number_or, option};
-ghost use Rattle.arguments.specs.Words.{plan_command, port_needed, program, report_command};
-ghost use Rattle.arguments.specs.Words.{number_needed, serve_command, text_needed};
+ghost use Rattle.std.specs.Prelude.{None, Some, map, true};
+ghost use Rattle.clap.specs.Words.{HasKind, HasMatchesOf, Kinds, app_of, fault_of};
+ghost use Rattle.clap.specs.Words.{found_of, is_simple_and_free, rows_of, subcommand_rows_of};
+ghost use Rattle.arguments.specs.Words.{FeedsNot, HasName, InRange, IsNumber, IsRefusal};
+ghost use Rattle.arguments.specs.Words.{IsRefusedBy, LacksName, Means, ReadsAs, ReadsFeed, ReadsNot};
+ghost use Rattle.arguments.specs.Words.{ReadsPlan, ReadsReport, ReadsServe, ReportsNot, ServesNot};
+ghost use Rattle.arguments.specs.Words.{UsesStreams, program};
 ghost use Rattle.arguments.specs.declared.words.WordsFault.TheVariants.{Memory};
 ghost use Rattle.arguments.specs.declared.words.ValueFault.TheVariants as lacks;
 
-use clap::builder::ValueParser;
+use crate::commands::program;
 use clap::error::ErrorKind;
-use clap::{Arg, ArgAction, ArgMatches, Command, Error, value_parser};
+use clap::{ArgMatches, Command, Error};
 use std::alloc::{AllocError, Global};
 use std::convert::AsStr;
 use std::{fmt, io};
@@ -26,26 +21,6 @@ use store_data::Name;
 /// The usage error for arguments that `clap` accepts but whose values are missing or out of range.
 /// `clap` checks every range itself, so no arguments are known that lead to it.
 const OUT_OF_RANGE: &str = "error: a value is missing or out of range\n";
-
-/// The program's version, as `--version` prints it.
-const VERSION: &str = "1.0.0";
-
-/// The end of the help of `drill`.
-const STATUSES: &str = "Exit statuses: 0 done; 1 refused; 2 wrong arguments; 3 storage, device or \
-    memory";
-
-/// The end of the help of `plan`.
-const STATUSES_OF_PLAN: &str = "Exit statuses: 0 done; 1 refused; 2 wrong arguments; 3 storage, \
-    device or memory\n\n\
-    A refused batch prints `refused N row R`. docs/PROFILE.md lists the faults by their number N.\n\
-    With PERSOD_LOG=1, an event line has the line, the field and the cause (docs/EVENTS.md).\n\
-    The cards get these commands only if the options are the settings of the batch's product.";
-
-/// The end of the help of the program, and of the subcommands that write event lines.
-const STATUSES_AND_EVENTS: &str = "Exit statuses: 0 done; 1 refused; 2 wrong arguments; 3 storage, \
-    device or memory\n\n\
-    Environment: PERSOD_LOG=1 writes event lines to standard error, and PERSOD_LOG=all also a line \
-    for each accepted request (docs/EVENTS.md). Unset, empty, 0 and off write none.";
 
 /// A subcommand with its options. Each value is in its range.
 #[derive(PartialEq, Eq, Drop)]
@@ -185,154 +160,6 @@ pub fn matches_of<'a, S: AsStr>(
         Ok(matches) => Ok(matches),
         Err(error) => Err(refusal_of(alloc, &error)?),
     }
-}
-
-fn program<'a>(alloc: Global) -> Result<Command<'a>, AllocError>
-    ensures { IfOk result (λ c. app_of c ≡ program) }
-{
-    Command::new(alloc, "persod")
-        .version(VERSION)
-        .about("A job server for card personalisation")
-        .after_help(STATUSES_AND_EVENTS)
-        .subcommand_required(true)
-        .subcommand(plan_command(alloc)?)?
-        .subcommand(drill_command(alloc))?
-        .subcommand(serve_command(alloc)?)?
-        .subcommand(report_command(alloc)?)?
-        .subcommand(feed_command(alloc)?)
-}
-
-fn plan_command<'a>(alloc: Global) -> Result<Command<'a>, AllocError>
-    ensures { IfOk result (λ c. (app_of c ≡ plan_command) × ((fields_of c).has_globals ≡ false)) }
-{
-    Command::new(alloc, "plan")
-        .about("Print the commands for each record of a batch file, read from standard input")
-        .after_help(STATUSES_OF_PLAN)
-        .arg(number_or(alloc, "max", value_parser!(u8).range(16..=255), "255").help(
-            "Maximum number of data bytes in a STORE DATA command, 16 to 255",
-        ))?
-        .arg(number_or(alloc, "low", value_parser!(u8).range(0..=31), "0").help(
-            "Bits 5 to 1 of P1 in every STORE DATA command, 0 to 31",
-        ))?
-        .arg(flag(alloc, "check").help(
-            "Check that each unencrypted EMV record has the form of EMV Book 3",
-        ))
-}
-
-fn drill_command<'a>(alloc: Global) -> Command<'a>
-    ensures { (app_of result ≡ drill_command) × ((fields_of result).has_globals ≡ false) }
-{
-    Command::new(alloc, "drill")
-        .about("Serve a script of requests, read from standard input, with a store in memory")
-        .after_help(STATUSES)
-}
-
-fn serve_command<'a>(alloc: Global) -> Result<Command<'a>, AllocError>
-    ensures { IfOk result (λ c. (app_of c ≡ serve_command) × ((fields_of c).has_globals ≡ false)) }
-{
-    Command::new(alloc, "serve")
-        .about("Serve requests on 127.0.0.1 with a database file, one connection after another")
-        .after_help(STATUSES_AND_EVENTS)
-        .arg(text_needed(alloc, "db", "PATH").help(
-            "Path of the database file; created if it does not exist",
-        ))?
-        .arg(port_needed(alloc).help("Port on 127.0.0.1, 1 to 65535"))?
-        .arg(number_needed(alloc, "turns", value_parser!(u32).range(1..=1_000_000)).help(
-            "Number of connections to serve before exiting, 1 to 1000000",
-        ))
-}
-
-fn report_command<'a>(alloc: Global) -> Result<Command<'a>, AllocError>
-    ensures { IfOk result (λ c. (app_of c ≡ report_command) × ((fields_of c).has_globals ≡ false)) }
-{
-    Command::new(alloc, "report")
-        .about("Print the report of a batch")
-        .after_help(STATUSES_AND_EVENTS)
-        .arg(text_needed(alloc, "db", "PATH").help(
-            "Path of the database file; it must exist, and no server may have it open",
-        ))?
-        .arg(text_needed(alloc, "batch", "NAME").help("Name of the batch"))
-}
-
-fn feed_command<'a>(alloc: Global) -> Result<Command<'a>, AllocError>
-    ensures { IfOk result (λ c. (app_of c ≡ feed_command) × ((fields_of c).has_globals ≡ false)) }
-{
-    Command::new(alloc, "feed")
-        .about(
-            "Personalise cards as a machine; each line of standard input is a card: SERIAL SW ..",
-        )
-        .after_help(STATUSES_AND_EVENTS)
-        .arg(port_needed(alloc).help("Port of the server on 127.0.0.1, 1 to 65535"))?
-        .arg(text_needed(alloc, "machine", "NAME").help("Name of the machine"))?
-        .arg(boot_needed(alloc).help(
-            "Boot number, 1 to 9999999999; must increase at every start of the machine. With at \
-            most 900719924, all request numbers are below 2^53",
-        ))?
-        .arg(text_needed(alloc, "batch", "NAME").help("Name of the batch"))
-}
-
-// `--port N`, required
-fn port_needed<'a>(alloc: Global) -> Arg<'a>
-    ensures rule { rule_of result ≡ port_needed }
-    ensures own { result.global ≡ false }
-{
-    number_needed(alloc, "port", value_parser!(u16).range(1..=65_535))
-}
-
-// `--boot N`, required
-fn boot_needed<'a>(alloc: Global) -> Arg<'a>
-    ensures rule { rule_of result ≡ boot_needed }
-    ensures own { result.global ≡ false }
-{
-    number_needed(alloc, "boot", ValueParser::unsigned(1, 9_999_999_999))
-}
-
-/// Returns the option `--name WORD`, which can be left out.
-pub fn option<'a>(alloc: Global, name: &'a str, word: &'a str) -> Arg<'a>
-    ensures rule { rule_of result ≡ option name.entry.now }
-    ensures own { result.global ≡ false }
-{
-    Arg::new(alloc, name).long(name).value_name(word)
-}
-
-// `--name WORD`, required
-fn text_needed<'a>(alloc: Global, name: &'a str, word: &'a str) -> Arg<'a>
-    ensures rule { rule_of result ≡ text_needed name.entry.now }
-    ensures own { result.global ≡ false }
-{
-    option(alloc, name, word).required(true)
-}
-
-// `--name N`
-fn number_option<'a>(alloc: Global, name: &'a str, parser: ValueParser<'a>) -> Arg<'a>
-    ensures rule { rule_of result ≡ number_option name.entry.now parser.entry }
-    ensures own { result.global ≡ false }
-{
-    option(alloc, name, "N").value_parser(parser)
-}
-
-// `--name N`, required
-fn number_needed<'a>(alloc: Global, name: &'a str, parser: ValueParser<'a>) -> Arg<'a>
-    ensures rule { rule_of result ≡ number_needed name.entry.now parser.entry }
-    ensures own { result.global ≡ false }
-{
-    number_option(alloc, name, parser).required(true)
-}
-
-// `--name N`, with a default
-fn number_or<'a>(alloc: Global, name: &'a str, parser: ValueParser<'a>, default: &'a str) -> Arg<'a>
-    ensures rule { rule_of result ≡ number_or name.entry.now parser.entry default.entry.now }
-    ensures own { result.global ≡ false }
-{
-    number_option(alloc, name, parser).default_value(default)
-}
-
-/// Returns the flag `--name`, which is off by default.
-pub fn flag<'a>(alloc: Global, name: &'a str) -> Arg<'a>
-    ensures rule { rule_of result ≡ flag name.entry.now }
-    ensures own { result.global ≡ false }
-{
-    Arg::new(alloc, name).long(name).action(ArgAction::SetTrue)
 }
 
 /// A reason why arguments that `clap` accepts can't be read.

@@ -1,12 +1,8 @@
 -- The command line of `shopbook` (this project's profile), as a command of `clap`, and the meaning
 -- of its arguments.
 use Rattle.std.specs.Prelude.{◌≡◌, ◌≢◌, ◌⊎◌, ⊤, Bool, List, [], codes, Option, None, Some, true, false, string_bytes}
-use Rattle.clap.specs.Words.{App, Row, Rule, Text, fault_of, first_of, new_app, subcommand_of, with_rule, with_subcommand}
-use Rattle.clap.specs.Words.{app_of, rule_of}
-use Rattle.clap.specs.declared.builder.command.Command.TheViews.{out-Command as fields_of}
-use Rattle.clap.specs.declared.builder.arg.Arg.{Arg}
-use Rattle.clap.specs.declared.builder.command.Command.{Command}
-use Rattle.arguments.specs.Words.{HasBadName, HasName, IsFlag, IsRefusedBy, flag, option, versioned}
+use Rattle.clap.specs.Words.{App, Row, Text, fault_of, first_of, new_app, subcommand_of, with_rule, with_subcommand}
+use Rattle.arguments.specs.Words.{HasBadName, HasName, IsFlag, IsRefusedBy, flag, text_rule, versioned}
 use Rattle.arguments.specs.declared.words.WordsFault.{WordsFault}
 use Rattle.arguments.specs.declared.words.WordsFault.TheVariants.{Help, Version, Usage, NotText, BadName, Memory}
 use Rattle.book_lines.specs.Blanks.{state_word}
@@ -18,18 +14,6 @@ use Rattle.arguments.specs.declared.words.ValueFault.{ValueFault}
 use Rattle.arguments.specs.declared.words.ValueFault.TheVariants as lacks
 
 -- ---- the command
-
--- `c` is the command `app`, and none of its arguments is global
-abbrev pub IsSo : App → Command → Type 0
-IsSo app c = (app_of c ≡ app) × ((fields_of c).has_globals ≡ false)
-
--- `a` is the argument `rule`, and it isn't global
-abbrev pub IsOwn : Rule → Arg → Type 0
-IsOwn rule a = (rule_of a ≡ rule) × (a.global ≡ false)
-
--- `--name WORD`, required if `needed` is `true`
-abbrev pub text_rule : Text → Bool → Rule
-text_rule name needed = record (option name) { required = needed }
 
 -- `NAME --db PATH`
 abbrev pub file_command : Text → App

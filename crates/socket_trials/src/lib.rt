@@ -1,4 +1,4 @@
-//! Tests of the use of sockets: addresses, time limits, pauses, the order of connections, limits,
+//! Tests of a server's use of sockets: addresses, time limits, the order of connections, limits,
 //! drains, signals and failed allocations. The sockets are in memory, and the tests advance the
 //! clock.
 #![tactic(auto)]
@@ -8,8 +8,6 @@ mod crowd;
 #[cfg(test)]
 mod drains;
 #[cfg(test)]
-mod fake;
-#[cfg(test)]
 mod limits;
 #[cfg(test)]
 mod lost;
@@ -17,5 +15,3 @@ mod lost;
 mod memory;
 #[cfg(test)]
 mod peers;
-#[cfg(test)]
-mod ports;

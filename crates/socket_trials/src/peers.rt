@@ -1,11 +1,11 @@
 //! Tests of a server's connections: its port, the order, the time limits, and errors of `accept`.
 use crate::crowd::{Crowd, Hall, Peer, Piece, Reports, crowd_of};
-use crate::fake::{local, millis};
 use http_messages::ByteSource;
 use loopback::{Loopback, PeerWriter};
 use server::{Connections, End, NextFault, Served};
 use std::alloc::Global;
 use std::io::{ErrorKind, Write};
+use std::net::{Ipv4Addr, SocketAddr, SocketAddrV4};
 use std::process::Abort;
 use std::test::Fail;
 
@@ -21,6 +21,11 @@ pub(crate) const SERVED: Served = Served {
     end: End::Answered,
     decided: false,
 };
+
+// Returns the address of the port `port` of 127.0.0.1.
+fn local(port: u16) -> SocketAddr {
+    SocketAddr::V4(SocketAddrV4::new(Ipv4Addr::new(127, 0, 0, 1), port))
+}
 
 // Serves connections, each for `takes` milliseconds. Checks when each of them is served, and its
 // bytes.
@@ -229,7 +234,8 @@ fn a_reply_has_its_time_once(rt: HostRuntime) -> Result<(), Fail> {
     for (after, is_taken, wait) in [(0, true, 5000), (8000, true, 2000), (2000, false, 2000)] {
         crowd.pass(after);
         assert_eq!(rt; reply.write(&[0; 2]).is_ok(), is_taken, "{wait}");
-        assert_eq!(rt; millis(crowd.write_wait.get()), Some(wait));
+        let limit = crowd.write_wait.get().map(|wait| wait.as_millis());
+        assert_eq!(rt; limit, Some(wait));
     }
     Ok(())
 }

@@ -1,4 +1,5 @@
-//! Tests that no example file can express: failing readers and writers, and event lines.
+//! Tests that no example file can express: failing readers and writers, event lines, and the
+//! socket of a machine.
 #![tactic(auto)]
 
 #[cfg(test)]
@@ -12,7 +13,11 @@ mod failing_readers;
 #[cfg(test)]
 mod failing_writers;
 #[cfg(test)]
+mod fake;
+#[cfg(test)]
 mod feeds;
+#[cfg(test)]
+mod ports;
 #[cfg(test)]
 mod readers;
 #[cfg(test)]

@@ -13,9 +13,9 @@ returns c =
     let four : App = with_subcommand three blanks_command.top in
     let five : App = with_subcommand four (book_command (codes "machines")).top in
     let start : app_of c.subcommand_required-program.result ≡ none = search rules in
-    let first = c.in_ok-joined.ensures none (book_command (codes "check")) start c.in_ok-check.ensures in
-    let second = c.in_ok-program.ensures one (book_command (codes "list")) first c.in_ok-list.ensures in
-    let third = c.in_ok-joined-2.ensures two cards_command second c.in_ok-cards_command.ensures in
-    let fourth = c.in_ok-program-2.ensures three blanks_command third c.in_ok-blanks_command.ensures in
-    let fifth = c.in_ok-joined-3.ensures four (book_command (codes "machines")) fourth c.in_ok-machines.ensures in
-    c.joined-6.ensures five sheet_command fifth c.in_ok-sheet_command.ensures
+    let first = c.in_ok-program.ensures none (book_command (codes "check")) start c.book_command.ensures in
+    let second = c.in_ok-program-2.ensures one (book_command (codes "list")) first c.book_command-2.ensures in
+    let third = c.in_ok-program-3.ensures two cards_command second c.cards_command.ensures in
+    let fourth = c.in_ok-program-4.ensures three blanks_command third c.blanks_command.ensures in
+    let fifth = c.in_ok-program-5.ensures four (book_command (codes "machines")) fourth c.book_command-3.ensures in
+    c.with_subcommand-6.ensures five sheet_command fifth c.sheet_command.ensures

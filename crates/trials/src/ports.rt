@@ -1,10 +1,11 @@
 //! Tests of the messages that a driver sends to a port: the address, the time limits, the size of
 //! the response, and the pauses before a message is sent again.
-use crate::fake::{Fake, Floor, Step, local, millis};
+use crate::fake::{Fake, Floor, Step, millis};
 use feeding::Exchange;
 use loopback::Port;
 use std::alloc::Global;
 use std::io::ErrorKind;
+use std::net::{Ipv4Addr, SocketAddr, SocketAddrV4};
 use std::process::Abort;
 use std::test::Fail;
 use std::time::Duration;
@@ -43,7 +44,8 @@ fn a_message_goes_whole_to_a_port_of_this_machine(rt: HostRuntime) -> Result<(),
     check(&rt, rt.alloc(), &floor, true, (Some(60_000), Some(60_000)))?;
     assert_eq!(rt; floor.take_written().as_slice(), MESSAGE);
     let minute = Duration::from_secs(60);
-    assert_eq!(rt; floor.connected.get(), Some((local(8807), minute)));
+    let server = SocketAddr::V4(SocketAddrV4::new(Ipv4Addr::new(127, 0, 0, 1), 8807));
+    assert_eq!(rt; floor.connected.get(), Some((server, minute)));
     Ok(())
 }
 

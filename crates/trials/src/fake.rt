@@ -4,7 +4,7 @@ ghost use Rattle.std.specs.Prelude.{◌≤◌, length};
 use std::alloc::Global;
 use std::cell::Cell;
 use std::io::{self, ErrorKind, Read, Write};
-use std::net::{Ipv4Addr, Net, OpenListener, OpenStream, SocketAddr, SocketAddrV4};
+use std::net::{Net, OpenListener, OpenStream, SocketAddr};
 use std::os::fd::{AsRawFd, RawFd};
 use std::time::{Clock, Duration};
 
@@ -138,11 +138,6 @@ impl Floor {
 /// The system, its listener and its stream.
 #[derive(Clone, Copy)]
 pub(crate) struct Fake<'f>(pub(crate) &'f Floor);
-
-/// Returns the address of the port `port` of 127.0.0.1.
-pub(crate) fn local(port: u16) -> SocketAddr {
-    SocketAddr::V4(SocketAddrV4::new(Ipv4Addr::new(127, 0, 0, 1), port))
-}
 
 /// Returns `wait` in milliseconds.
 pub(crate) fn millis(wait: Option<Duration>) -> Option<u128> {
