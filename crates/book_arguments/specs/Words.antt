@@ -20,8 +20,8 @@ use Rattle.arguments.specs.declared.words.ValueFault.TheVariants as lacks
 -- ---- the command
 
 -- `c` is the command `app`, and none of its arguments is global
-abbrev pub IsSo : App → Command → Type 0
-IsSo app c = (app_of c ≡ app) × ((fields_of c).has_globals ≡ false)
+abbrev pub IsCommand : App → Command → Type 0
+IsCommand app c = (app_of c ≡ app) × ((fields_of c).has_globals ≡ false)
 
 -- `a` is the argument `rule`, and it isn't global
 abbrev pub IsOwn : Rule → Arg → Type 0

@@ -2,7 +2,7 @@
 ghost use Rattle.std.specs.Prelude.{◌≡◌, IfOk, codes};
 ghost use Rattle.clap.specs.Words.{App, Rule, app_of, with_rule, with_subcommand};
 ghost use Rattle.arguments.specs.Words.{flag};
-ghost use Rattle.book_arguments.specs.Words.{IsOwn, IsSo, blanks_command, book_command};
+ghost use Rattle.book_arguments.specs.Words.{IsCommand, IsOwn, blanks_command, book_command};
 ghost use Rattle.book_arguments.specs.Words.{cards_command, file_command, program, sheet_command};
 ghost use Rattle.book_arguments.specs.Words.{text_rule};
 
@@ -62,7 +62,7 @@ pub(crate) fn program<'a>(alloc: Global) -> Result<Command<'a>, AllocError>
 
 // A subcommand with `--db`.
 fn file_command<'a>(alloc: Global, name: &'a str, about: &'a str) -> Result<Command<'a>, AllocError>
-    ensures { IfOk result (IsSo (file_command name.entry.now)) }
+    ensures { IfOk result (IsCommand (file_command name.entry.now)) }
 {
     let db = text(alloc, "db", "PATH", true, DATABASE);
     let command = Command::new(alloc, name).about(about).after_help(STATUSES);
@@ -71,20 +71,20 @@ fn file_command<'a>(alloc: Global, name: &'a str, about: &'a str) -> Result<Comm
 
 // A subcommand with `--db` and `--json`.
 fn book_command<'a>(alloc: Global, name: &'a str, about: &'a str) -> Result<Command<'a>, AllocError>
-    ensures { IfOk result (IsSo (book_command name.entry.now)) }
+    ensures { IfOk result (IsCommand (book_command name.entry.now)) }
 {
     with(file_command(alloc, name, about)?, json(alloc))
 }
 
 fn cards_command<'a>(alloc: Global) -> Result<Command<'a>, AllocError>
-    ensures { IfOk result (IsSo cards_command) }
+    ensures { IfOk result (IsCommand cards_command) }
 {
     let batch = text(alloc, "batch", "NAME", true, "Name of the batch");
     with(book_command(alloc, "cards", OF_CARDS)?, batch)
 }
 
 fn blanks_command<'a>(alloc: Global) -> Result<Command<'a>, AllocError>
-    ensures { IfOk result (IsSo blanks_command) }
+    ensures { IfOk result (IsCommand blanks_command) }
 {
     let product = text(alloc, "product", "NAME", true, "Name of the product");
     let state = text(alloc, "state", "STATE", false, STATES);
@@ -93,7 +93,7 @@ fn blanks_command<'a>(alloc: Global) -> Result<Command<'a>, AllocError>
 }
 
 fn sheet_command<'a>(alloc: Global) -> Result<Command<'a>, AllocError>
-    ensures { IfOk result (IsSo sheet_command) }
+    ensures { IfOk result (IsCommand sheet_command) }
 {
     let batch = text(alloc, "batch", "NAME", true, "Name of the batch");
     with(file_command(alloc, "sheet", OF_SHEET)?, batch)
@@ -101,15 +101,15 @@ fn sheet_command<'a>(alloc: Global) -> Result<Command<'a>, AllocError>
 
 // Adds `arg` to `command`.
 fn with<'a>(command: Command<'a>, arg: Arg<'a>) -> Result<Command<'a>, AllocError>
-    ensures { (app : App) (rule : Rule) → IsSo app command.entry → IsOwn rule arg.entry
-        → IfOk result (IsSo (with_rule app rule)) }
+    ensures { (app : App) (rule : Rule) → IsCommand app command.entry → IsOwn rule arg.entry
+        → IfOk result (IsCommand (with_rule app rule)) }
 {
     command.arg(arg)
 }
 
 // Adds the subcommand `part` to `program`.
 fn joined<'a>(program: Command<'a>, part: Command<'a>) -> Result<Command<'a>, AllocError>
-    ensures { (app sub : App) → app_of program.entry ≡ app → IsSo sub part.entry
+    ensures { (app sub : App) → app_of program.entry ≡ app → IsCommand sub part.entry
         → IfOk result (λ c. app_of c ≡ with_subcommand app sub.top) }
 {
     program.subcommand(part)

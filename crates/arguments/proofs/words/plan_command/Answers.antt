@@ -2,7 +2,7 @@ use Rattle.std.proofs.Common.{rules, ◌≡◌, ◌∙◌, false, codes, ap}
 use Rattle.clap.specs.Words.{new_app, rule_of}
 use Rattle.clap.specs.declared.builder.arg.Arg.{Arg}
 use Rattle.arguments.specs.Words.{flag, number_or, numbers}
-use Rattle.arguments.proofs.CommandLemmas.{IsSo, last, more}
+use Rattle.arguments.proofs.CommandLemmas.{IsCommand, last, more}
 use Rattle.arguments.proofs.words.plan_command.Goals as goal
 
 pub returns : goal.returns
@@ -19,7 +19,7 @@ returns c =
     ) in
     let check : (rule_of c.help-3.result ≡ flag (codes "check")) × (c.help-3.result.global ≡ false) =
     (ap rule_of c.help-3.ensures ∙ c.flag.ensures.rule, ap (λ (a : Arg). a.global) c.help-3.ensures ∙ c.flag.ensures.own) in
-    let start : IsSo (new_app (codes "plan")) c.after_help.result = (search rules, search rules) in
+    let start : IsCommand (new_app (codes "plan")) c.after_help.result = (search rules, search rules) in
     let one = more c.after_help.result c.help.result c.in_ok-arg.field-0 _ _ start max c.in_ok-arg.ensures in
     let two = more c.in_ok-arg.field-0 c.help-2.result c.in_ok-arg-2.field-0 _ _ one low c.in_ok-arg-2.ensures in
     last c.in_ok-arg-2.field-0 c.help-3.result c.arg-3.result _ _ two check c.arg-3.ensures

@@ -2,7 +2,7 @@ use Rattle.std.proofs.Common.{rules, ◌≡◌, ◌∙◌, false, codes, ap}
 use Rattle.clap.specs.Words.{new_app, rule_of}
 use Rattle.clap.specs.declared.builder.arg.Arg.{Arg}
 use Rattle.arguments.specs.Words.{number_needed, numbers, port_needed, text_needed}
-use Rattle.arguments.proofs.CommandLemmas.{IsSo, last, more}
+use Rattle.arguments.proofs.CommandLemmas.{IsCommand, last, more}
 use Rattle.arguments.proofs.words.serve_command.Goals as goal
 
 pub returns : goal.returns
@@ -16,7 +16,7 @@ returns c =
       ap rule_of c.help-3.ensures ∙ c.number_needed.ensures.rule ∙ ap (number_needed (codes "turns")) to_1000000,
       ap (λ (a : Arg). a.global) c.help-3.ensures ∙ c.number_needed.ensures.own,
     ) in
-    let start : IsSo (new_app (codes "serve")) c.after_help.result = (search rules, search rules) in
+    let start : IsCommand (new_app (codes "serve")) c.after_help.result = (search rules, search rules) in
     let one = more c.after_help.result c.help.result c.in_ok-arg.field-0 _ _ start db c.in_ok-arg.ensures in
     let two = more c.in_ok-arg.field-0 c.help-2.result c.in_ok-arg-2.field-0 _ _ one port c.in_ok-arg-2.ensures in
     last c.in_ok-arg-2.field-0 c.help-3.result c.arg-3.result _ _ two turns c.arg-3.ensures
