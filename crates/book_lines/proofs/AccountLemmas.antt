@@ -33,7 +33,7 @@ use Rattle.audit_laws.specs.Audited.{IsAudited}
 use Rattle.audit_laws.proofs.AuditedMoved.{lot_alike}
 use Rattle.audit_laws.proofs.SoundLists.{equal}
 use Rattle.audit_order.specs.Order.{lots_of}
-use Rattle.book_lines.specs.Blanks.{Charge, IsAccount, blanks_for, charge_of, charges_of, count_so, is_of, same_state, session_on, share_for, stands_by, stands_on, stands_so, totals_by}
+use Rattle.book_lines.specs.Blanks.{Charge, IsAccount, blanks_for, charge_of, charges_of, count_in_state, is_in_state, is_of, same_state, session_on, share_for, stands_by, stands_on, totals_by}
 use Rattle.book_lines.specs.declared.blank_state.BlankState.{BlankState}
 use Rattle.book_lines.specs.declared.blank_state.BlankState.TheVariants as blank
 
@@ -73,12 +73,12 @@ one_state blank.Spoiled = refl
 one_state blank.Discarded = refl
 
 abbrev standing : BlankState → List Charge → ℕ
-standing state charges = count_by (stands_so state) charges
+standing state charges = count_by (is_in_state state) charges
 
 all_stand : (charges : List Charge) → length charges ≡ standing blank.Good charges + standing blank.Running charges + standing blank.Spoiled charges + standing blank.Discarded charges
 all_stand [] = refl
 all_stand (c ∷ charges) =
-    let step : (state : BlankState) → standing state (c ∷ charges) ≡ one (stands_so state c) + standing state charges = λ state. sum_by-cons (λ d. one (stands_so state d)) c charges in
+    let step : (state : BlankState) → standing state (c ∷ charges) ≡ one (is_in_state state c) + standing state charges = λ state. sum_by-cons (λ d. one (is_in_state state d)) c charges in
     omega (arith, all_stand charges, one_state (stands_on c.on), step blank.Good, step blank.Running, step blank.Spoiled, step blank.Discarded)
 
 -- ---- facts
@@ -144,31 +144,31 @@ module _ (t : Tables) (c : Contents) (audited : IsAudited t) (sound : IsSound c.
   opened_row s = stored_blank f false s.blank
 
   abbrev is_counted : BlankState → StoredBlank → Bool
-  is_counted state b = is_of t p b && stands_so state (charge_of t b)
+  is_counted state b = is_of t p b && is_in_state state (charge_of t b)
 
-  abbrev opened_so : BlankState → Session → Bool
-  opened_so state s = is_blank_of f p s.blank && same_state state (stands_by (session_state f s))
+  abbrev opened_in : BlankState → Session → Bool
+  opened_in state s = is_blank_of f p s.blank && same_state state (stands_by (session_state f s))
 
-  abbrev discarded_so : BlankState → ℕ → Bool
-  discarded_so state n = is_blank_of f p n && same_state state blank.Discarded
+  abbrev discarded_in : BlankState → ℕ → Bool
+  discarded_in state n = is_blank_of f p n && same_state state blank.Discarded
 
-  counts : (state : BlankState) → count_so state (charges_of t p) ≡ count_by (opened_so state) f.sessions + count_by (discarded_so state) f.discarded
+  counts : (state : BlankState) → count_in_state state (charges_of t p) ≡ count_by (opened_in state) f.sessions + count_by (discarded_in state) f.discarded
   unfolding stored_blanks
   counts state =
-      let all : count_so state (charges_of t p) ≡ count_by (is_counted state) t.blanks =
-      length-filter (stands_so state) (charges_of t p) ∙ count_among (stands_so state) (charge_of t) (is_of t p) t.blanks in
+      let all : count_in_state state (charges_of t p) ≡ count_by (is_counted state) t.blanks =
+      length-filter (is_in_state state) (charges_of t p) ∙ count_among (is_in_state state) (charge_of t) (is_of t p) t.blanks in
       let moved : count_by (is_counted state) t.blanks ≡ count_by (is_counted state) (map opened_row f.sessions ++ map (stored_blank f true) f.discarded) =
       count_moved (is_counted state) t.blanks (stored_blanks f) same.blanks in
       let parts = sum_by-append (λ b. one (is_counted state b)) (map opened_row f.sessions) (map (stored_blank f true) f.discarded) in
-      let opened : count_by (is_counted state) (map opened_row f.sessions) ≡ count_by (opened_so state) f.sessions =
+      let opened : count_by (is_counted state) (map opened_row f.sessions) ≡ count_by (opened_in state) f.sessions =
       sum_by-map (λ b. one (is_counted state b)) opened_row f.sessions
-      ∙ counted_alike (λ s. is_counted state (opened_row s)) (opened_so state) f.sessions (λ k d within.
+      ∙ counted_alike (λ s. is_counted state (opened_row s)) (opened_in state) f.sessions (λ k d within.
       let s : Session = get_or f.sessions k d in
       ap (λ b. b && same_state state (stands_on (session_on t.sessions s.blank))) (is_same s.blank)
       ∙ ap (λ stands. is_blank_of f p s.blank && same_state state stands) (state_on k d within)) in
-      let out : count_by (is_counted state) (map (stored_blank f true) f.discarded) ≡ count_by (discarded_so state) f.discarded =
+      let out : count_by (is_counted state) (map (stored_blank f true) f.discarded) ≡ count_by (discarded_in state) f.discarded =
       sum_by-map (λ b. one (is_counted state b)) (stored_blank f true) f.discarded
-      ∙ counted_alike (λ n. is_counted state (stored_blank f true n)) (discarded_so state) f.discarded
+      ∙ counted_alike (λ n. is_counted state (stored_blank f true n)) (discarded_in state) f.discarded
       (λ k d within. ap (λ b. b && same_state state blank.Discarded) (is_same (get_or f.discarded k d))) in
       omega (arith, all, moved, parts, opened, out)
 
@@ -177,13 +177,13 @@ module _ (t : Tables) (c : Contents) (audited : IsAudited t) (sound : IsSound c.
 
   -- the count for a state that a session can have
   session_count : (state : BlankState) (its : SessionState) → ((s : SessionState) → same_state state (stands_by s) ≡ same_session_state its s)
-      → same_state state blank.Discarded ≡ false → count_so state (charges_of t p) ≡ count_sessions (blank_states f p) its
+      → same_state state blank.Discarded ≡ false → count_in_state state (charges_of t p) ≡ count_sessions (blank_states f p) its
   unfolding blank_states
   session_count state its alike other =
-      let out : count_by (discarded_so state) f.discarded ≡ 0 =
-      none_counted (discarded_so state) f.discarded (λ k d within. ap (λ b. is_blank_of f p (get_or f.discarded k d) && b) other ∙ and-false (is_blank_of f p (get_or f.discarded k d))) in
-      let opened : count_by (opened_so state) f.sessions ≡ count_by (λ (s : Session). is_blank_of f p s.blank && same_session_state its (session_state f s)) f.sessions =
-      counted_alike (opened_so state) (λ (s : Session). is_blank_of f p s.blank && same_session_state its (session_state f s)) f.sessions
+      let out : count_by (discarded_in state) f.discarded ≡ 0 =
+      none_counted (discarded_in state) f.discarded (λ k d within. ap (λ b. is_blank_of f p (get_or f.discarded k d) && b) other ∙ and-false (is_blank_of f p (get_or f.discarded k d))) in
+      let opened : count_by (opened_in state) f.sessions ≡ count_by (λ (s : Session). is_blank_of f p s.blank && same_session_state its (session_state f s)) f.sessions =
+      counted_alike (opened_in state) (λ (s : Session). is_blank_of f p s.blank && same_session_state its (session_state f s)) f.sessions
       (λ k d within. ap (λ b. is_blank_of f p (get_or f.sessions k d).blank && b) (alike (session_state f (get_or f.sessions k d)))) in
       let kept : count_sessions (blank_states f p) its ≡ count_by (λ (s : Session). is_blank_of f p s.blank && same_session_state its (session_state f s)) f.sessions =
       count_among (same_session_state its) (session_state f) (λ (s : Session). is_blank_of f p s.blank) f.sessions in
@@ -194,14 +194,14 @@ module _ (t : Tables) (c : Contents) (audited : IsAudited t) (sound : IsSound c.
   not_discarded session.Good = refl
   not_discarded session.Spoiled = refl
 
-  discarded_count : count_so blank.Discarded (charges_of t p) ≡ count_by (is_blank_of f p) f.discarded
+  discarded_count : count_in_state blank.Discarded (charges_of t p) ≡ count_by (is_blank_of f p) f.discarded
   discarded_count =
-      let opened : count_by (opened_so blank.Discarded) f.sessions ≡ 0 =
-      none_counted (opened_so blank.Discarded) f.sessions (λ k d within.
+      let opened : count_by (opened_in blank.Discarded) f.sessions ≡ 0 =
+      none_counted (opened_in blank.Discarded) f.sessions (λ k d within.
       let s : Session = get_or f.sessions k d in
       ap (λ b. is_blank_of f p s.blank && b) (not_discarded (session_state f s)) ∙ and-false (is_blank_of f p s.blank)) in
-      let out : count_by (discarded_so blank.Discarded) f.discarded ≡ count_by (is_blank_of f p) f.discarded =
-      counted_alike (discarded_so blank.Discarded) (is_blank_of f p) f.discarded (λ k d within. and-true (is_blank_of f p (get_or f.discarded k d))) in
+      let out : count_by (discarded_in blank.Discarded) f.discarded ≡ count_by (is_blank_of f p) f.discarded =
+      counted_alike (discarded_in blank.Discarded) (is_blank_of f p) f.discarded (λ k d within. and-true (is_blank_of f p (get_or f.discarded k d))) in
       omega (arith, counts blank.Discarded, opened, out)
 
   same_good : (s : SessionState) → same_state blank.Good (stands_by s) ≡ same_session_state session.Good s
@@ -237,19 +237,19 @@ module _ (t : Tables) (c : Contents) (audited : IsAudited t) (sound : IsSound c.
       let whole : (blank_totals f p).total ≡ sum_by count_of (filter (is_lot_for p) (stored_lots f)) = ap (λ (b : BlankTotals). b.total) (blanks_in_rows f sound p) in
       omega (arith, moved, kept, whole)
 
-  good_many : count_so blank.Good (charges_of t p) ≡ (blank_totals f p).good
+  good_many : count_in_state blank.Good (charges_of t p) ≡ (blank_totals f p).good
   unfolding blank_totals
   good_many = session_count blank.Good session.Good same_good refl
 
-  running_many : count_so blank.Running (charges_of t p) ≡ (blank_totals f p).running
+  running_many : count_in_state blank.Running (charges_of t p) ≡ (blank_totals f p).running
   unfolding blank_totals
   running_many = session_count blank.Running session.Running same_running refl
 
-  spoiled_many : count_so blank.Spoiled (charges_of t p) ≡ (blank_totals f p).spoiled
+  spoiled_many : count_in_state blank.Spoiled (charges_of t p) ≡ (blank_totals f p).spoiled
   unfolding blank_totals
   spoiled_many = session_count blank.Spoiled session.Spoiled same_spoiled refl
 
-  discarded_many : count_so blank.Discarded (charges_of t p) ≡ (blank_totals f p).discarded
+  discarded_many : count_in_state blank.Discarded (charges_of t p) ≡ (blank_totals f p).discarded
   unfolding blank_totals
   discarded_many = discarded_count
 
@@ -265,7 +265,7 @@ module _ (t : Tables) (c : Contents) (audited : IsAudited t) (sound : IsSound c.
 
   charged_many : length (charges_of t p) ≡ (blank_totals f p).good + (blank_totals f p).running + (blank_totals f p).spoiled + (blank_totals f p).discarded
   charged_many =
-      let by : (state : BlankState) → count_so state (charges_of t p) ≡ standing state (charges_of t p) = λ state. length-filter (stands_so state) (charges_of t p) in
+      let by : (state : BlankState) → count_in_state state (charges_of t p) ≡ standing state (charges_of t p) = λ state. length-filter (is_in_state state) (charges_of t p) in
       omega (arith, all_stand (charges_of t p), by blank.Good, by blank.Running, by blank.Spoiled, by blank.Discarded, good_many, running_many, spoiled_many, discarded_many)
 
   once : AllPairs (λ (a b : Charge). a.blank.serial ≢ b.blank.serial) (charges_of t p)

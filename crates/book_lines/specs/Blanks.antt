@@ -66,8 +66,8 @@ same_state blank.Spoiled blank.Spoiled = true
 same_state blank.Discarded blank.Discarded = true
 same_state _ _ = false
 
-abbrev pub stands_so : BlankState → Charge → Bool
-stands_so state c = same_state state (stands_on c.on)
+abbrev pub is_in_state : BlankState → Charge → Bool
+is_in_state state c = same_state state (stands_on c.on)
 
 abbrev pub state_word : BlankState → List ℕ
 state_word blank.Running = codes "running"
@@ -95,15 +95,15 @@ blank_line t c = record {
 -- `c` is in the given state, or no state is given.
 abbrev pub is_wanted : Option BlankState → Charge → Bool
 is_wanted None c = true
-is_wanted (Some state) c = stands_so state c
+is_wanted (Some state) c = is_in_state state c
 
 abbrev pub wanted_text : Form → Tables → Option BlankState → Charge → List ℕ
 wanted_text form t state c = if is_wanted state c then line_text form (blank_line t c) else []
 
 -- ---- sums
 
-abbrev pub count_so : BlankState → List Charge → ℕ
-count_so state charges = length (filter (stands_so state) charges)
+abbrev pub count_in_state : BlankState → List Charge → ℕ
+count_in_state state charges = length (filter (is_in_state state) charges)
 
 -- the number of blanks in `l` if it is a lot of the product `p`, otherwise 0
 abbrev pub share_for : List ℕ → StoredLot → ℕ
@@ -118,10 +118,10 @@ abbrev pub totals_by : List ℕ → List StoredLot → List Charge → BlankTota
 totals_by p lots charges = record {
   lots = length (filter (is_lot_for p) lots);
   total = blanks_for p lots;
-  good = count_so blank.Good charges;
-  running = count_so blank.Running charges;
-  spoiled = count_so blank.Spoiled charges;
-  discarded = count_so blank.Discarded charges;
+  good = count_in_state blank.Good charges;
+  running = count_in_state blank.Running charges;
+  spoiled = count_in_state blank.Spoiled charges;
+  discarded = count_in_state blank.Discarded charges;
 }
 
 -- The rows of `t` give the counters `totals` for the blanks of the product `p`. Each charged blank
@@ -137,9 +137,9 @@ abbrev pub sums_line : List ℕ → List StoredLot → List Charge → Line
 sums_line p lots charges = record {
   kind = codes "sums";
   cells = number_cell (codes "lots") (length (filter (is_lot_for p) lots)) ∷ number_cell (codes "total") (blanks_for p lots)
-      ∷ number_cell (codes "free") (blanks_for p lots - length charges) ∷ number_cell (codes "good") (count_so blank.Good charges)
-      ∷ number_cell (codes "running") (count_so blank.Running charges) ∷ number_cell (codes "spoiled") (count_so blank.Spoiled charges)
-      ∷ number_cell (codes "discarded") (count_so blank.Discarded charges) ∷ [];
+      ∷ number_cell (codes "free") (blanks_for p lots - length charges) ∷ number_cell (codes "good") (count_in_state blank.Good charges)
+      ∷ number_cell (codes "running") (count_in_state blank.Running charges) ∷ number_cell (codes "spoiled") (count_in_state blank.Spoiled charges)
+      ∷ number_cell (codes "discarded") (count_in_state blank.Discarded charges) ∷ [];
 }
 
 -- ---- complete output

@@ -13,7 +13,8 @@ ghost use Rattle.image_laws.specs.Image.{image};
 ghost use Rattle.audit_order.specs.Order.{AreReady};
 ghost use Rattle.book_lines.specs.Blanks.{IsAccount, batch_charges, batch_for, blank_line};
 ghost use Rattle.book_lines.specs.Blanks.{blanks_for, blanks_of, blanks_text, charge_of};
-ghost use Rattle.book_lines.specs.Blanks.{charges_of, count_so, is_charged_to, is_of, is_wanted};
+ghost use Rattle.book_lines.specs.Blanks.{charges_of, count_in_state, is_charged_to, is_of};
+ghost use Rattle.book_lines.specs.Blanks.{is_wanted};
 ghost use Rattle.book_lines.specs.Blanks.{record_for, share_for, sums_line, wanted_text};
 ghost use Rattle.book_lines.specs.Book.{IsBook};
 ghost use Rattle.book_lines.specs.Keyed.{AreKeyed};
@@ -246,7 +247,7 @@ fn is_wanted(charge: &Charge<'_>, state: Option<BlankState>) -> bool
 {
     match state {
         None => true,
-        Some(state) => charge.stands_so(state),
+        Some(state) => charge.is_in_state(state),
     }
 }
 
@@ -339,10 +340,10 @@ fn push_sums(
         number("lots", lots_for(&tables.lots, product)),
         number("total", total),
         number("free", total.saturating_sub(charges.len() as u64)),
-        number("good", count_so(charges, BlankState::Good)),
-        number("running", count_so(charges, BlankState::Running)),
-        number("spoiled", count_so(charges, BlankState::Spoiled)),
-        number("discarded", count_so(charges, BlankState::Discarded)),
+        number("good", count_in_state(charges, BlankState::Good)),
+        number("running", count_in_state(charges, BlankState::Running)),
+        number("spoiled", count_in_state(charges, BlankState::Spoiled)),
+        number("discarded", count_in_state(charges, BlankState::Discarded)),
     ];
     push_line(text, form, "sums", &cells)
 }
@@ -379,11 +380,11 @@ fn share_for(lot: &StoredLot, product: &Name) -> u64
 }
 
 // Returns the number of charged blanks in the state `state`.
-fn count_so(charges: &[Charge<'_>], state: BlankState) -> u64
-    ensures { result ≡ count_so state charges.now }
+fn count_in_state(charges: &[Charge<'_>], state: BlankState) -> u64
+    ensures { result ≡ count_in_state state charges.now }
 {
     charges
         .iter()
-        .filter(|charge| charge.stands_so(state))
+        .filter(|charge| charge.is_in_state(state))
         .count() as u64
 }

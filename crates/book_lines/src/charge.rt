@@ -1,6 +1,6 @@
 //! A charged blank with its session.
 ghost use Rattle.std.specs.Prelude.{◌≡◌};
-ghost use Rattle.book_lines.specs.Blanks.{stands_on, stands_so};
+ghost use Rattle.book_lines.specs.Blanks.{is_in_state, stands_on};
 
 use crate::blank_state::{BlankState, stands_by};
 use std::marker::Model;
@@ -36,8 +36,8 @@ impl<'a> Charge<'a> {
     }
 
     /// Returns `true` if the blank is in the state `state`.
-    pub fn stands_so(&self, state: BlankState) -> bool
-        ensures { result ≡ stands_so state self.now }
+    pub fn is_in_state(&self, state: BlankState) -> bool
+        ensures { result ≡ is_in_state state self.now }
     {
         state == self.stands()
     }

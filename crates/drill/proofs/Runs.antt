@@ -17,8 +17,8 @@ use Rattle.text_io.specs.declared.reading.ReadFault.TheVariants as read
 use Rattle.drill.specs.Floors.{Floor, empty_floor}
 use Rattle.drill.specs.declared.stop.DrillStop.{DrillStop}
 use Rattle.drill.specs.declared.stop.DrillStop.TheVariants as stop
-use Rattle.drill.specs.Steps.{Did, Steps}
-use Rattle.drill.specs.Ends.{AreDone, Done, DrillsOver, Goes, GoesOn, IsWritten, Runs, printed, unopened, unread}
+use Rattle.drill.specs.Steps.{LineEffect, Steps}
+use Rattle.drill.specs.Ends.{AreDone, Done, DrillsOver, Goes, GoesOn, IsWritten, Runs, printed, stop_of_read, unopened}
 use Rattle.drill.proofs.ScriptLemmas.{here, text_of}
 
 -- ---- lines after other lines
@@ -32,7 +32,7 @@ done_more state usable s fl [] (d ∷ ds) es m flm lm last floor left all next =
 done_more state usable s fl (l ∷ behind) (d ∷ ds) es m flm lm last floor left (did, goes, rest) next =
     (did, goes, done_more state usable d.store d.did.floor (drop d.did.taken behind) ds es m flm lm last floor left rest next)
 
-text_of_both : {S : Type 0} (ds es : List (Done S)) (ended_in : Option Did) → printed (ds ++ es) ended_in ≡ printed ds None ++ printed es ended_in
+text_of_both : {S : Type 0} (ds es : List (Done S)) (ended_in : Option LineEffect) → printed (ds ++ es) ended_in ≡ printed ds None ++ printed es ended_in
 text_of_both {S} ds es None = flat_map-append (λ (d : Done S). d.did.text) ds es
 text_of_both {S} ds es (Some last) =
     ap (λ xs. xs ++ last.text) (flat_map-append (λ (d : Done S). d.did.text) ds es) ∙ append_assoc (printed ds None) (printed es None) last.text
@@ -103,10 +103,10 @@ line_last state usable s fl ls behind at number d a b c m flm r within of rest s
 
 -- ---- one line
 
-abbrev pub one_done : {S : Type 0} → Did → S → S → Done S
+abbrev pub one_done : {S : Type 0} → LineEffect → S → S → Done S
 one_done did served store = record { did = did; served = served; store = store }
 
-pub line_goes : {S : Type 0} (state : S → State) (usable : S → Type 0) (s served store : S) (fl : Floor) (l : List ℕ) (behind : List (List ℕ)) (did : Did) (a b : Option (List ℕ))
+pub line_goes : {S : Type 0} (state : S → State) (usable : S → Type 0) (s served store : S) (fl : Floor) (l : List ℕ) (behind : List (List ℕ)) (did : LineEffect) (a b : Option (List ℕ))
     → Steps state s served fl l behind (Some did) → GoesOn state usable served store did.stops → Appends a b did.text → Goes state usable s fl (l ∷ behind) a b store did.floor (drop did.taken behind)
 line_goes state usable s served store fl l behind did a b step goes wrote =
     (one_done did served store ∷ [], (step, goes, (refl, refl, refl)), subst (Appends a b) (sym (append-nil did.text)) wrote)
@@ -128,13 +128,13 @@ line_bad state usable s after fl number l behind a step = record {
   written = Appends-nil a;
 }
 
-pub line_unwritten : {S : Type 0} (state : S → State) (usable : S → Type 0) (s served : S) (fl : Floor) (count : ℕ) (l : List ℕ) (behind : List (List ℕ)) (did : Did) (a b : Option (List ℕ))
+pub line_unwritten : {S : Type 0} (state : S → State) (usable : S → Type 0) (s served : S) (fl : Floor) (count : ℕ) (l : List ℕ) (behind : List (List ℕ)) (did : LineEffect) (a b : Option (List ℕ))
     → Steps state s served fl l behind (Some did) → AppendsBeginning a b did.text → Runs state usable s fl count (l ∷ behind) a b (Err stop.WriteFailed)
 line_unwritten state usable s served fl count l behind did a b step wrote =
     record { did = []; last = s; floor = fl; left = l ∷ behind; ended_in = Some did; done = (refl, refl, refl); ends = (served, step); written = wrote }
 
 -- The run ends if the store can't be opened again after the line.
-pub line_unopened : {S : Type 0} (state : S → State) (usable : S → Type 0) (s served : S) (fl : Floor) (count : ℕ) (l : List ℕ) (behind : List (List ℕ)) (did : Did) (a b : Option (List ℕ)) (why : StoreFault)
+pub line_unopened : {S : Type 0} (state : S → State) (usable : S → Type 0) (s served : S) (fl : Floor) (count : ℕ) (l : List ℕ) (behind : List (List ℕ)) (did : LineEffect) (a b : Option (List ℕ)) (why : StoreFault)
     → Steps state s served fl l behind (Some did) → Appends a b did.text → did.stops ≡ true → Runs state usable s fl count (l ∷ behind) a b (Err (unopened why))
 line_unopened state usable s served fl count l behind did a b fault.Memory step wrote stops =
     record { did = []; last = s; floor = fl; left = l ∷ behind; ended_in = Some did; done = (refl, refl, refl); ends = ((served, step), stops); written = wrote }
@@ -150,7 +150,7 @@ agrees_some None = tt
 agrees_some (Some all) = refl
 
 -- The run ends if the lines of the script can't be read.
-pub unread_all : {S : Type 0} (state : S → State) (usable : S → Type 0) (s : S) (known a : Option (List ℕ)) (r : Result (Unit {0}) DrillStop) (why : DrillStop) (fault : ReadFault) → r ≡ Err why → why ≡ unread fault
+pub unread_all : {S : Type 0} (state : S → State) (usable : S → Type 0) (s : S) (known a : Option (List ℕ)) (r : Result (Unit {0}) DrillStop) (why : DrillStop) (fault : ReadFault) → r ≡ Err why → why ≡ stop_of_read fault
     → DrillsOver state usable s known a a r
 unread_all state usable s known a r why read.Failed is of = rw (is, of) (Keeps-refl a)
 unread_all state usable s known a r why read.Memory is of = rw (is, of) (unwrap_or known [], agrees_some known, line_unmade state usable s empty_floor _ _ a)

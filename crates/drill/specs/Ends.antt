@@ -15,11 +15,11 @@ use Rattle.drill.specs.Floors.{Floor, empty_floor}
 use Rattle.drill.specs.declared.stop.DrillStop.{DrillStop}
 use Rattle.drill.specs.declared.stop.DrillStop.TheVariants as stop
 use Rattle.job_facts.specs.Reopening.{IsAnew, Reopens}
-use Rattle.drill.specs.Steps.{Did, Steps}
+use Rattle.drill.specs.Steps.{LineEffect, Steps}
 
 -- the effect of a line, the store after it, and the store for the next line
 pub record Done (S : Type 0) : Type 0 where
-  pub did : Did
+  pub did : LineEffect
   pub served : S
   pub store : S
 
@@ -45,13 +45,13 @@ IsBadLine {S} state s fl count n [] = ⊥
 IsBadLine {S} state s fl count n (l ∷ behind) = (after : S) × Steps state s after fl l behind None × (n + length behind ≡ count)
 
 -- the first of these lines had this effect, and the drill ends after it
-abbrev pub IsLast : {S : Type 0} → (S → State) → S → Floor → List (List ℕ) → Did → Type 0
+abbrev pub IsLast : {S : Type 0} → (S → State) → S → Floor → List (List ℕ) → LineEffect → Type 0
 IsLast {S} state s fl [] did = ⊥
 IsLast {S} state s fl (l ∷ behind) did = (served : S) × Steps state s served fl l behind (Some did)
 
 -- the reason why a drill ends after a line was run: its output wasn't written completely, or the
 -- store can't be opened again after a crash
-abbrev pub EndsIn : {S : Type 0} → (S → State) → S → Floor → List (List ℕ) → Did → DrillStop → Type 0
+abbrev pub EndsIn : {S : Type 0} → (S → State) → S → Floor → List (List ℕ) → LineEffect → DrillStop → Type 0
 EndsIn state s fl left did (stop.BadLine n) = ⊥
 EndsIn state s fl left did stop.WriteFailed = IsLast state s fl left did
 EndsIn state s fl left did stop.Memory = IsLast state s fl left did × (did.stops ≡ true)
@@ -60,7 +60,7 @@ EndsIn state s fl left did stop.ReadFailed = ⊥
 
 -- the reason why a drill of `count` lines ends while the lines `left` remain; the first of them may
 -- have been run
-abbrev pub EndsAt : {S : Type 0} → (S → State) → S → Floor → ℕ → List (List ℕ) → Option Did → Result (Unit {0}) DrillStop → Type 0
+abbrev pub EndsAt : {S : Type 0} → (S → State) → S → Floor → ℕ → List (List ℕ) → Option LineEffect → Result (Unit {0}) DrillStop → Type 0
 EndsAt state s fl count left None (Ok u) = left ≡ []
 EndsAt state s fl count left None (Err (stop.BadLine n)) = IsBadLine state s fl count n left
 EndsAt state s fl count left None (Err stop.WriteFailed) = ⊤
@@ -79,7 +79,7 @@ IsWritten before after text (Err stop.Memory) = Appends before after text
 IsWritten before after text (Err stop.Storage) = Appends before after text
 IsWritten before after text (Err stop.ReadFailed) = ⊥
 
-abbrev pub printed : {S : Type 0} → List (Done S) → Option Did → List ℕ
+abbrev pub printed : {S : Type 0} → List (Done S) → Option LineEffect → List ℕ
 printed ds None = flat_map (λ d. d.did.text) ds
 printed ds (Some last) = flat_map (λ d. d.did.text) ds ++ last.text
 
@@ -90,7 +90,7 @@ pub record Runs {S : Type 0} (state : S → State) (usable : S → Type 0) (s : 
   pub last : S
   pub floor : Floor
   pub left : List (List ℕ)
-  pub ended_in : Option Did
+  pub ended_in : Option LineEffect
   pub done : AreDone state usable s fl ls did last floor left
   pub ends : EndsAt state last floor count left ended_in result
   pub written : IsWritten before after (printed did ended_in) result
@@ -125,9 +125,9 @@ abbrev pub Goes : {S : Type 0} → (S → State) → (S → Type 0) → S → Fl
 Goes {S} state usable s fl ls before after last floor left =
     (ds : List (Done S)) × AreDone state usable s fl ls ds last floor left × Appends before after (printed ds None)
 
-abbrev pub unread : ReadFault → DrillStop
-unread read.Failed = stop.ReadFailed
-unread read.Memory = stop.Memory
+abbrev pub stop_of_read : ReadFault → DrillStop
+stop_of_read read.Failed = stop.ReadFailed
+stop_of_read read.Memory = stop.Memory
 
 abbrev pub unopened : StoreFault → DrillStop
 unopened fault.Memory = stop.Memory

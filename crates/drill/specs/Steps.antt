@@ -13,13 +13,13 @@ use Rattle.drill.specs.declared.sent.Packet.{Packet}
 use Rattle.drill.specs.declared.turn.Turn.{Turn}
 use Rattle.drill.specs.Floors.{Floor, Turned, Turns, packet_at, with_reply}
 use Rattle.drill.specs.declared.delivery.Delivery.{Delivery}
-use Rattle.drill.specs.declared.step.Did.{Did as DidValue}
+use Rattle.drill.specs.declared.step.LineEffect.{LineEffect as DidValue}
 use Rattle.drill.specs.Scripts.{asked}
 use Rattle.drill.specs.ScriptLines.{Ask, Deliver, Line, Move, line_of}
 
 -- the effect of a line: the shop floor after it, how many of the following lines were its file, its
 -- output, and whether the server crashes in it
-pub record Did : Type 0 where
+pub record LineEffect : Type 0 where
   pub floor : Floor
   pub taken : ℕ
   pub text : List ℕ
@@ -48,7 +48,7 @@ Answers state old new message reply =
 -- ---- lines that send a request to the server
 
 -- the request is sent, and the lines of its file are taken
-abbrev pub AsksBy : {S : Type 0} → (S → State) → S → S → Floor → List (List ℕ) → Option (List ℕ × List (List ℕ)) → Option Did → Type 0
+abbrev pub AsksBy : {S : Type 0} → (S → State) → S → S → Floor → List (List ℕ) → Option (List ℕ × List (List ℕ)) → Option LineEffect → Type 0
 AsksBy state old new fl behind None did = did ≡ None
 AsksBy state old new fl behind (Some p) did =
     (reply : List ℕ) × (taken : ℕ) × Answers state old new p.0 reply × (drop taken behind ≡ p.1)
@@ -57,7 +57,7 @@ AsksBy state old new fl behind (Some p) did =
 -- ---- lines that deliver a packet
 
 -- the response is stored
-abbrev pub delivered : Packet → List ℕ → Floor → Did
+abbrev pub delivered : Packet → List ℕ → Floor → LineEffect
 delivered p reply fl = record {
   floor = with_reply p.machine p.number reply fl;
   taken = 0;
@@ -66,12 +66,12 @@ delivered p reply fl = record {
 }
 
 -- the server crashes
-abbrev pub stopped : Floor → Did
+abbrev pub stopped : Floor → LineEffect
 stopped fl = record { floor = fl; taken = 0; text = line (codes "stopped"); stops = true }
 
 -- a packet is delivered, for the first time or again; if the server crashes before the commit, the
 -- store is unchanged; if it crashes after the commit, the response is lost
-abbrev pub Brings : {S : Type 0} → (S → State) → S → S → Floor → Stop → Option Packet → Option Did → Type 0
+abbrev pub Brings : {S : Type 0} → (S → State) → S → S → Floor → Stop → Option Packet → Option LineEffect → Type 0
 Brings state old new fl stop.No (Some p) did = (reply : List ℕ) × Answers state old new p.message reply × (did ≡ Some (delivered p reply fl))
 Brings state old new fl stop.Before (Some p) did = (new ≡ old) × (did ≡ Some (stopped fl))
 Brings state old new fl stop.After (Some p) did = (reply : List ℕ) × Answers state old new p.message reply × (did ≡ Some (stopped fl))
@@ -79,20 +79,20 @@ Brings state old new fl stop.No None did = did ≡ None
 Brings state old new fl stop.Before None did = did ≡ None
 Brings state old new fl stop.After None did = did ≡ None
 
-abbrev pub Delivers : {S : Type 0} → (S → State) → S → S → Floor → Delivery → Option Did → Type 0
+abbrev pub Delivers : {S : Type 0} → (S → State) → S → S → Floor → Delivery → Option LineEffect → Type 0
 Delivers state old new fl d did = Brings state old new fl d.stop (packet_at fl d.packet) did
 
 -- ---- lines in which the server has no part
 
-abbrev pub plain : Turned → Did
+abbrev pub plain : Turned → LineEffect
 plain t = record { floor = t.0; taken = 0; text = t.1; stops = false }
 
-abbrev pub Moves : Floor → Turn → Option Did → Type 0
+abbrev pub Moves : Floor → Turn → Option LineEffect → Type 0
 Moves fl t did = (made : Option Turned) × Turns fl t made × (did ≡ option_map plain made)
 
 -- ---- any line
 
-abbrev pub ByLine : {S : Type 0} → (S → State) → S → S → Floor → List (List ℕ) → Option Line → Option Did → Type 0
+abbrev pub ByLine : {S : Type 0} → (S → State) → S → S → Floor → List (List ℕ) → Option Line → Option LineEffect → Type 0
 ByLine state old new fl behind None did = did ≡ None
 ByLine state old new fl behind (Some (Move t)) did = (new ≡ old) × Moves fl t did
 ByLine state old new fl behind (Some (Deliver d)) did = Delivers state old new fl d did
@@ -100,13 +100,13 @@ ByLine state old new fl behind (Some (Ask s)) did = AsksBy state old new fl behi
 
 -- the effect of a line with the lines after it, or `None` if the line is malformed or names
 -- something that doesn't exist
-abbrev pub Steps : {S : Type 0} → (S → State) → S → S → Floor → List ℕ → List (List ℕ) → Option Did → Type 0
+abbrev pub Steps : {S : Type 0} → (S → State) → S → S → Floor → List ℕ → List (List ℕ) → Option LineEffect → Type 0
 Steps state old new fl text behind did = ByLine state old new fl behind (line_of text) did
 
 -- ---- the values of the code
 
-abbrev pub did_view : Floor → DidValue → Did
-did_view fl did = record { floor = fl; taken = did.taken; text = did.text.items; stops = did.stops }
+abbrev pub effect_view : Floor → DidValue → LineEffect
+effect_view fl did = record { floor = fl; taken = did.taken; text = did.text.items; stops = did.stops }
 
-abbrev pub did_of : Floor → Option DidValue → Option Did
-did_of fl did = option_map (did_view fl) did
+abbrev pub effect_of : Floor → Option DidValue → Option LineEffect
+effect_of fl did = option_map (effect_view fl) did

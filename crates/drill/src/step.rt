@@ -4,7 +4,7 @@ ghost use Rattle.drill.specs.Floors.{Floor as FloorState};
 ghost use Rattle.drill.specs.Turns.{IsTurn};
 ghost use Rattle.drill.specs.Scripts.{asked, shown};
 ghost use Rattle.drill.specs.Steps.{Answers, AsksBy, Delivers, Moves, Steps, delivered};
-ghost use Rattle.drill.specs.Steps.{did_of, did_view, reply_line, reply_number, stopped};
+ghost use Rattle.drill.specs.Steps.{effect_of, effect_view, reply_line, reply_number, stopped};
 
 use crate::delivery::Delivery;
 use crate::floor::Floor;
@@ -23,7 +23,7 @@ use wire::reply_parts;
 /// The effect of a line: how many of the following lines were its file, its output, and whether the
 /// server crashes in it.
 #[derive(Drop)]
-pub(crate) struct Did {
+pub(crate) struct LineEffect {
     pub(crate) taken: usize,
     pub(crate) text: Vec<u8>,
     pub(crate) stops: bool,
@@ -37,9 +37,9 @@ pub(crate) fn step<S: JobStore>(
     store: &mut S,
     line: &[u8],
     behind: &[&[u8]],
-) -> Result<Option<Did>, AllocError>
+) -> Result<Option<LineEffect>, AllocError>
     ensures steps { IfOk result (λ did. Steps S.state store.old store.new floor.old line.now
-        (map (λ l. l.now) behind.now) (did_of floor.new did)) }
+        (map (λ l. l.now) behind.now) (effect_of floor.new did)) }
     ensures within { IfOk result (λ did. IfSome did (λ d. d.taken ≤ length behind.now)) }
 {
     match line_of(line) {
@@ -51,15 +51,15 @@ pub(crate) fn step<S: JobStore>(
 }
 
 // Runs a line that moves a machine or a reply.
-fn move_by(alloc: Global, floor: &mut Floor, turn: Turn) -> Result<Option<Did>, AllocError>
+fn move_by(alloc: Global, floor: &mut Floor, turn: Turn) -> Result<Option<LineEffect>, AllocError>
     requires { IsTurn turn }
-    ensures moves { IfOk result (λ did. Moves floor.old turn (did_of floor.new did)) }
+    ensures moves { IfOk result (λ did. Moves floor.old turn (effect_of floor.new did)) }
     ensures within { IfOk result (λ did. IfSome did (λ d. d.taken ≡ 0)) }
 {
     let Some(text) = floor.turn(alloc, turn)? else {
         return Ok(None);
     };
-    Ok(Some(Did {
+    Ok(Some(LineEffect {
         taken: 0,
         text,
         stops: false,
@@ -72,10 +72,10 @@ fn ask<S: JobStore>(
     store: &mut S,
     step: Step<'_>,
     behind: &[&[u8]],
-) -> Result<Option<Did>, AllocError>
+) -> Result<Option<LineEffect>, AllocError>
     ensures asks { (fl : FloorState) → let behind = map (λ l. l.now) behind.now in
         IfOk result (λ did. AsksBy S.state store.old store.new fl behind
-        (asked (shown step.entry) behind) (did_of fl did)) }
+        (asked (shown step.entry) behind) (effect_of fl did)) }
     ensures within { IfOk result (λ did. IfSome did (λ d. d.taken ≤ length behind.now)) }
 {
     let Some((message, taken)) = asked(alloc, step, behind)? else {
@@ -83,7 +83,7 @@ fn ask<S: JobStore>(
     };
     let reply = serve(alloc, store, message)?;
     let text = with_reply(Vec::new(alloc), reply.as_slice())?;
-    Ok(Some(Did {
+    Ok(Some(LineEffect {
         taken,
         text,
         stops: false,
@@ -96,10 +96,10 @@ fn deliver<S: JobStore>(
     floor: &mut Floor,
     store: &mut S,
     delivery: Delivery,
-) -> Result<Option<Did>, AllocError>
+) -> Result<Option<LineEffect>, AllocError>
     requires { 1 ≤ delivery.packet }
     ensures delivers { IfOk result (λ did. Delivers S.state store.old store.new floor.old
-        delivery (did_of floor.new did)) }
+        delivery (effect_of floor.new did)) }
     ensures within { IfOk result (λ did. IfSome did (λ d. d.taken ≡ 0)) }
 {
     let Some(packet) = floor.packet(delivery.packet) else {
@@ -127,9 +127,9 @@ fn answered(
     machine: Name,
     number: u64,
     reply: &[u8],
-) -> Result<Did, AllocError>
+) -> Result<LineEffect, AllocError>
     ensures { IfOk result (λ did. (message : List ℕ)
-        → did_view floor.new did ≡ delivered (record {
+        → effect_view floor.new did ≡ delivered (record {
           machine = machine;
           number = number;
           message = message;
@@ -138,7 +138,7 @@ fn answered(
     let kept = Bytes::from_vec(reply.to_vec(alloc)?);
     let count = floor.keep(machine, number, kept)?;
     let text = with_reply(numbered(alloc, count)?, reply)?;
-    Ok(Did {
+    Ok(LineEffect {
         taken: 0,
         text,
         stops: false,
@@ -146,10 +146,10 @@ fn answered(
 }
 
 // Returns the effect of a crash of the server.
-fn stop(alloc: Global) -> Result<Did, AllocError>
-    ensures { IfOk result (λ did. (fl : FloorState) → did_view fl did ≡ stopped fl) }
+fn stop(alloc: Global) -> Result<LineEffect, AllocError>
+    ensures { IfOk result (λ did. (fl : FloorState) → effect_view fl did ≡ stopped fl) }
 {
-    Ok(Did {
+    Ok(LineEffect {
         taken: 0,
         text: text_line(alloc, b"stopped")?,
         stops: true,

@@ -42,9 +42,9 @@ impl fmt::Display for DrillStop {
 impl Error for DrillStop {}
 
 impl From<ReadFault> for DrillStop {
-    ghost use Rattle.drill.specs.Ends.{unread};
+    ghost use Rattle.drill.specs.Ends.{stop_of_read};
 
-    ghost from_gives = { λ fault stop. stop ≡ unread fault };
+    ghost from_gives = { λ fault stop. stop ≡ stop_of_read fault };
 
     fn from(fault: ReadFault) -> DrillStop {
         match fault {

@@ -14,7 +14,7 @@ use Rattle.feeder.specs.Table.{asked}
 use Rattle.feeding.specs.declared.engine.FeedStop.{FeedStop}
 use Rattle.feeding.specs.declared.engine.FeedStop.TheVariants as stop
 use Rattle.feeding.specs.Feeds.{Feed, hears}
-use Rattle.feeding.specs.Tries.{AreTries, EndsBy, Goes, Heard, IsEnd, IsHeard, IsPrinted, IsSent, IsSettled, IsTry, Logs, Try, feed_after, printed, try_of, unread}
+use Rattle.feeding.specs.Tries.{AreTries, EndsBy, Goes, Heard, IsEnd, IsHeard, IsPrinted, IsSent, IsSettled, IsTry, Logs, Try, feed_after, printed, stop_of_read, try_of}
 use Rattle.feeding.proofs.Going.{hears_few, left_of, less_left}
 use Rattle.feeding.specs.declared.engine.Response.{Response}
 use Rattle.feeding.specs.Events.{FeedEndsWithEvents, GoesWithEvents, IsNoted, IsNotedOf, end_texts, event_texts, lines_under}
@@ -128,6 +128,6 @@ agrees_some None = tt
 agrees_some (Some all) = refl
 
 pub no_lines : {E : Type 0} (contents : E → Option (List ℕ)) (first : List ℕ → Feed) (known : Option (List ℕ)) (log : Option (List Try)) (a : Option (List ℕ)) (e : EventLog E) (r : Result (Unit {0}) FeedStop) (why : FeedStop)
-    (fault : ReadFault) → ((raw : List ℕ) → (first raw).tries ≡ 0) → r ≡ Err why → why ≡ unread fault → FeedEndsWithEvents contents first known log log a a e e r
+    (fault : ReadFault) → ((raw : List ℕ) → (first raw).tries ≡ 0) → r ≡ Err why → why ≡ stop_of_read fault → FeedEndsWithEvents contents first known log log a a e e r
 no_lines contents first known log a e r why Failed new is of = rw (is, of) (refl, Keeps-refl a, lost contents e e [] refl)
 no_lines contents first known log a e r why Memory new is of = rw (is, of) (unwrap_or known [], agrees_some known, (no_memory contents (first (unwrap_or known [])) log a e (new (unwrap_or known []))).0, (no_memory contents (first (unwrap_or known [])) log a e (new (unwrap_or known []))).1)

@@ -147,6 +147,6 @@ IsPrinted heard after old new (Err stop.WriteFailed) = AppendsBeginning old new 
 IsPrinted heard after old new (Err stop.Memory) = new ≡ old
 IsPrinted heard after old new (Err _) = ⊥
 
-abbrev pub unread : ReadFault → FeedStop
-unread read.Failed = stop.ReadFailed
-unread read.Memory = stop.Memory
+abbrev pub stop_of_read : ReadFault → FeedStop
+stop_of_read read.Failed = stop.ReadFailed
+stop_of_read read.Memory = stop.Memory

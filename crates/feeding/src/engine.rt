@@ -65,9 +65,9 @@ impl fmt::Display for FeedStop {
 impl Error for FeedStop {}
 
 impl From<ReadFault> for FeedStop {
-    ghost use Rattle.feeding.specs.Tries.{unread};
+    ghost use Rattle.feeding.specs.Tries.{stop_of_read};
 
-    ghost from_gives = { λ fault stop. stop ≡ unread fault };
+    ghost from_gives = { λ fault stop. stop ≡ stop_of_read fault };
 
     fn from(fault: ReadFault) -> FeedStop {
         match fault {

@@ -55,9 +55,9 @@ PlanEndsWithEvents contents p raw before after old new r =
 
 -- ---- intermediate results
 
-abbrev pub unread : ReadFault → PlanStop
-unread read.Failed = stop.ReadFailed
-unread read.Memory = stop.Memory
+abbrev pub stop_of_read : ReadFault → PlanStop
+stop_of_read read.Failed = stop.ReadFailed
+stop_of_read read.Memory = stop.Memory
 
 abbrev pub stop_of : ImportFault → PlanStop
 stop_of (fault.At f) = stop.Refused f

@@ -58,9 +58,9 @@ impl From<AllocError> for PlanStop {
 }
 
 impl From<ReadFault> for PlanStop {
-    ghost use Rattle.plan_print.specs.PlanEnds.{unread};
+    ghost use Rattle.plan_print.specs.PlanEnds.{stop_of_read};
 
-    ghost from_gives = { λ fault stop. stop ≡ unread fault };
+    ghost from_gives = { λ fault stop. stop ≡ stop_of_read fault };
 
     fn from(fault: ReadFault) -> PlanStop {
         match fault {

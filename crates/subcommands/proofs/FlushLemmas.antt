@@ -12,7 +12,7 @@ use Rattle.job_facts.specs.Store.{State}
 use Rattle.job_facts.specs.declared.store.StoreFault.{StoreFault}
 use Rattle.job_facts.specs.declared.store.StoreFault.TheVariants as fault
 use Rattle.drill.specs.Floors.{Floor}
-use Rattle.drill.specs.Steps.{Did}
+use Rattle.drill.specs.Steps.{LineEffect}
 use Rattle.drill.specs.Ends.{EndsAt, IsWritten, Runs, printed, unopened}
 use Rattle.drill.specs.declared.stop.DrillStop.{DrillStop}
 use Rattle.drill.specs.declared.stop.DrillStop.TheVariants as drill
@@ -67,11 +67,11 @@ lost state usable s fl count ls before mid after r runs went_on written = record
 }
 
 -- A drill that succeeds or ends at a malformed line wasn't ended by a line that was run.
-none_late : {S : Type 0} (state : S → State) (s : S) (fl : Floor) (count : ℕ) (left : List (List ℕ)) (ended_in : Option Did) (u : Unit {0}) → EndsAt state s fl count left ended_in (Ok u) → ended_in ≡ None
+none_late : {S : Type 0} (state : S → State) (s : S) (fl : Floor) (count : ℕ) (left : List (List ℕ)) (ended_in : Option LineEffect) (u : Unit {0}) → EndsAt state s fl count left ended_in (Ok u) → ended_in ≡ None
 none_late state s fl count left None u ends = refl
 none_late state s fl count left (Some did) u ends = absurd ends
 
-none_bad : {S : Type 0} (state : S → State) (s : S) (fl : Floor) (count n : ℕ) (left : List (List ℕ)) (ended_in : Option Did) → EndsAt state s fl count left ended_in (Err (drill.BadLine n)) → ended_in ≡ None
+none_bad : {S : Type 0} (state : S → State) (s : S) (fl : Floor) (count n : ℕ) (left : List (List ℕ)) (ended_in : Option LineEffect) → EndsAt state s fl count left ended_in (Err (drill.BadLine n)) → ended_in ≡ None
 none_bad state s fl count n left None ends = refl
 none_bad state s fl count n left (Some did) ends = absurd ends
 

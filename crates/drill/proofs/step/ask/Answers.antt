@@ -1,12 +1,12 @@
 use Rattle.std.proofs.Common.{◌∙◌, ◌++◌, ℕ, List, Option, Some, ap, drop, false, map, refl, sym}
 use Rattle.drill.specs.Floors.{Floor}
 use Rattle.drill.specs.Scripts.{asked, shown}
-use Rattle.drill.specs.Steps.{Did, reply_line}
+use Rattle.drill.specs.Steps.{LineEffect, reply_line}
 use Rattle.drill.proofs.LineLemmas.{asks_by}
 use Rattle.drill.proofs.ScriptLemmas.{text_of}
 use Rattle.drill.proofs.step.ask.Goals as goal
 
-asked_did : Floor → ℕ → List ℕ → Option Did
+asked_did : Floor → ℕ → List ℕ → Option LineEffect
 asked_did fl taken t = Some (record { floor = fl; taken = taken; text = t; stops = false })
 
 pub returns-clause-asks : goal.returns-clause-asks

@@ -1,6 +1,6 @@
 use Rattle.std.proofs.Common.{◌∙◌, Some, [], ap, refl, subst, sym}
 use Rattle.feeder.specs.declared.world.Stop.TheVariants as stop
-use Rattle.drill.specs.Steps.{Answers, Did, delivered}
+use Rattle.drill.specs.Steps.{Answers, LineEffect, delivered}
 use Rattle.drill.proofs.LineLemmas.{delivers_by}
 use Rattle.drill.proofs.step.deliver.Goals as goal
 
@@ -15,7 +15,7 @@ returns-in_ok-answered-in-No-clause-delivers g c =
     )
 
 pub returns-in_ok-answered-in-No-clause-within : goal.returns-in_ok-answered-in-No-clause-within
-returns-in_ok-answered-in-No-clause-within g c = ap (λ (d : Did). d.taken) (c.in_ok-answered-in-No.ensures [])
+returns-in_ok-answered-in-No-clause-within g c = ap (λ (d : LineEffect). d.taken) (c.in_ok-answered-in-No.ensures [])
 
 pub returns-in_ok-stop-in-Before-clause-delivers :
     goal.returns-in_ok-stop-in-Before-clause-delivers
@@ -24,7 +24,7 @@ returns-in_ok-stop-in-Before-clause-delivers g c =
     (refl, ap Some (c.in_ok-stop-in-Before.ensures c.args.floor.now))
 
 pub returns-in_ok-stop-in-Before-clause-within : goal.returns-in_ok-stop-in-Before-clause-within
-returns-in_ok-stop-in-Before-clause-within g c = ap (λ (d : Did). d.taken) (c.in_ok-stop-in-Before.ensures c.args.floor.now)
+returns-in_ok-stop-in-Before-clause-within g c = ap (λ (d : LineEffect). d.taken) (c.in_ok-stop-in-Before.ensures c.args.floor.now)
 
 pub returns-in_ok-stop-in-After-clause-delivers : goal.returns-in_ok-stop-in-After-clause-delivers
 returns-in_ok-stop-in-After-clause-delivers g c =
@@ -36,4 +36,4 @@ returns-in_ok-stop-in-After-clause-delivers g c =
     )
 
 pub returns-in_ok-stop-in-After-clause-within : goal.returns-in_ok-stop-in-After-clause-within
-returns-in_ok-stop-in-After-clause-within g c = ap (λ (d : Did). d.taken) (c.in_ok-stop-in-After.ensures c.args.floor.now)
+returns-in_ok-stop-in-After-clause-within g c = ap (λ (d : LineEffect). d.taken) (c.in_ok-stop-in-After.ensures c.args.floor.now)
