@@ -3,6 +3,7 @@
 #![tactic(auto)]
 
 mod closing;
+mod ended;
 mod import;
 mod kept;
 mod line;

@@ -4,6 +4,7 @@ ghost use Rattle.event_lines.specs.Notes.{NotesAll};
 ghost use Rattle.server_run.specs.ConnectionLines.{fails_after, lines_at, own_lines};
 ghost use Rattle.server_run.specs.ConnectionLines.{recovery_lines};
 
+use crate::ended::Ended;
 use crate::import::note_import;
 use crate::line::connection_line;
 use crate::observation::Observation;
@@ -11,10 +12,26 @@ use event_lines::{EventLine, EventLog, Level};
 use std::alloc::Global;
 use std::io::Write;
 
-/// Writes the event lines of a served connection, as far as the level of `events` includes them.
-/// `is_failing` tells whether the store was failing before the connection. Returns `true` if it is
-/// failing after it.
-pub fn note_connection<E: Write + Drop>(
+/// Writes the event lines of a connection that has ended, as far as the level of `events` includes
+/// them. `is_failing` tells whether the store was failing before the connection. Returns `true` if
+/// it is failing after it.
+pub(crate) fn note_connection<E: Write + Drop>(
+    alloc: Global,
+    events: &mut EventLog<E>,
+    is_failing: bool,
+    ended: &Ended,
+) -> bool
+    ensures level { events.new.level ≡ events.old.level }
+    ensures noted { NotesAll events.old.level (E.contents events.old.writer)
+        (E.contents events.new.writer)
+        (lines_at events.old.level is_failing ended.now.observation) }
+    ensures fails { result ≡ fails_after is_failing ended.now.observation }
+{
+    note_observed(alloc, events, is_failing, ended.observation())
+}
+
+// Writes the event lines of a connection.
+fn note_observed<E: Write + Drop>(
     alloc: Global,
     events: &mut EventLog<E>,
     is_failing: bool,

@@ -6,6 +6,7 @@ ghost use Rattle.server_run.specs.declared.observation.Observation.{Observation 
 ghost use Rattle.server_run.specs.ObservedRuns.{ObservesAll};
 ghost use Rattle.server_run.specs.ServerLines.{of_next};
 
+use crate::ended::Ended;
 use crate::import::with_product;
 use crate::noted::note_connection;
 use crate::observing::serve_observed;
@@ -62,9 +63,9 @@ pub(crate) fn serve_connections<S: ServerStore, C: Connections, E: Write + Drop>
             writer,
         );
         let observation = with_product(store, events.is_on(), observation);
-        connections.back(incoming, writer, observation.served);
-        is_failing = note_connection(alloc, events, is_failing, &observation);
-        drop(observation);
+        let ended = Ended::new(connections, incoming, writer, observation);
+        is_failing = note_connection(alloc, events, is_failing, &ended);
+        drop(ended);
         count += 1;
     }
     let outcome = Ok(());

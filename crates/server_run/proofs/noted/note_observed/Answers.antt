@@ -4,7 +4,7 @@ use Rattle.event_lines.specs.declared.level.Level.{Level}
 use Rattle.server_run.specs.ConnectionLines.{own_lines, recovery_lines}
 use Rattle.server_run.specs.ImportLines.{import_lines}
 use Rattle.event_lines.proofs.NotesLemmas.{both-all}
-use Rattle.server_run.proofs.noted.note_connection.Goals as goal
+use Rattle.server_run.proofs.noted.note_observed.Goals as goal
 
 pub returns-clause-noted : goal.returns-clause-noted
 returns-clause-noted g c =
