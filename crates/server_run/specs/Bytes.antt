@@ -1,5 +1,5 @@
 -- Defines the first bytes that are kept of a connection's input and response.
-use Rattle.std.specs.Prelude.{◌≡◌, ℕ, List, ◌++◌, length, take, Option}
+use Rattle.std.specs.Prelude.{◌≡◌, ℕ, List, ◌++◌, length, take, Option, Result, Ok, Err}
 use Rattle.std.specs.Io.KnownBytes.{Appends, Consumes}
 use Rattle.server.specs.declared.served.End.{End}
 use Rattle.server.specs.declared.served.End.TheVariants.{Answered, Broken, WriteFailed}
@@ -26,6 +26,17 @@ KeepsRead before after first = (bytes : List ℕ) × Consumes before after bytes
 abbrev pub KeepsWritten : Option (List ℕ) → Option (List ℕ) → List ℕ → List ℕ → Type 0
 KeepsWritten before after taken offered =
     (bytes : List ℕ) × (rest : List ℕ) × Appends before after bytes × (taken ≡ take 512 bytes) × (offered ≡ take 512 (bytes ++ rest))
+
+-- the bytes in `taken` after a write of `buf` with this result
+abbrev pub taken_after : {E : Type 0} → List ℕ → List ℕ → Result ℕ E → List ℕ
+taken_after taken buf (Ok count) = take 512 (taken ++ take count buf)
+taken_after taken buf (Err error) = taken
+
+-- the bytes that are kept of the response of a connection that ended this way
+abbrev pub reply_by : End → List ℕ → List ℕ → List ℕ
+reply_by Answered taken offered = taken
+reply_by Broken taken offered = taken
+reply_by WriteFailed taken offered = offered
 
 -- `reply` is the first bytes of the response at the end of a connection
 abbrev pub KeepsReply : End → Option (List ℕ) → Option (List ℕ) → List ℕ → Type 0

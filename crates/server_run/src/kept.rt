@@ -1,6 +1,6 @@
 //! A reader and a writer that keep the first bytes that pass through them.
 ghost use Rattle.std.specs.Prelude.{◌≡◌, None};
-ghost use Rattle.server_run.specs.Bytes.{KeepsRead, KeepsReply, KeepsWritten};
+ghost use Rattle.server_run.specs.Bytes.{KeepsRead, KeepsReply, KeepsWritten, reply_by};
 
 use http_messages::ByteSource;
 use server::{Beginning, End};
@@ -110,6 +110,7 @@ impl<W: Write, K: Start> KeepingWriter<W, K> {
     /// `end`. If a write failed, they may include bytes of this write that were not accepted.
     pub fn into_parts(self, end: End) -> (W, Beginning<REPLY_BYTES>)
         ensures inner { result.0 ≡ self.inner }
+        ensures reply { result.1 ≡ reply_by end self.taken self.offered }
         ensures kept { ∥ KeepsReply end K.contents (W.contents result.0) result.1 ∥₁ }
     {
         let KeepingWriter {
@@ -126,9 +127,21 @@ impl<W: Write, K: Start> KeepingWriter<W, K> {
 }
 
 impl<W: Write, K: Start> Write for KeepingWriter<W, K> {
+    ghost use Rattle.std.specs.Prelude.{◌≡◌, ◌++◌, take};
+    ghost use Rattle.std.specs.Io.{WritesAtMost};
+    ghost use Rattle.std.specs.Io.KnownBytes.{WriteAppends};
+    ghost use Rattle.server_run.specs.Bytes.{taken_after};
+
     ghost contents = { λ w. W.contents w.inner };
 
-    fn write(&mut self, buf: &[u8]) -> io::Result<usize> {
+    // The trait has the first two clauses. The others say which bytes are kept.
+    fn write(&mut self, buf: &[u8]) -> io::Result<usize>
+        ensures bound { WritesAtMost result buf.now }
+        ensures bytes { WriteAppends (W.contents self.old.inner) (W.contents self.new.inner) result
+            buf.now }
+        ensures offered { self.new.offered ≡ take 512 (self.old.taken ++ buf.now) }
+        ensures taken { self.new.taken ≡ taken_after self.old.taken buf.now result }
+    {
         let mut offered = Beginning::new();
         offered.add(self.taken.as_slice());
         offered.add(buf);
