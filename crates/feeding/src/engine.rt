@@ -147,7 +147,8 @@ pub fn feed_engine<R: Read, W: Write, X: Exchange>(
 /// Does the same as `feed_engine`, and writes event lines to `events`: for each rejected card the
 /// request number and the code of the refusal or another cause, for each try that changed nothing
 /// the response, and for a malformed line its number and its flaw. The event lines of a try are
-/// written before its output. Event lines that can't be written are ignored.
+/// written before its output, but no contract states this order. Event lines that can't be written
+/// are ignored.
 ///
 /// # Errors
 ///
