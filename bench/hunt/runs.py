@@ -5,7 +5,8 @@
 
 `./test` runs this script with the programs that it has just proved and built. It takes a few seconds. The parts are: arguments, inputs that
 can't be read, outputs that can't be written, runs on the standard streams, files that are refused, a machine with a simulated server, a server
-over a socket whose files are then reported and read, a killed server, and files of each schema version. Exit status: 1 if a check fails."""
+over a socket whose files are then reported and read, a long report, a killed server, and files of each schema version. Exit status: 1 if a
+check fails."""
 import os
 import pathlib
 import shutil
@@ -176,8 +177,15 @@ def causes(folder: pathlib.Path) -> None:
     make(changed, rows(RICH), Shape(indices=OURS), "DROP TABLE mark")
     refused('missing-table table="mark"', changed)
     empty.touch()
-    ran = run(PERSOD, "report", "--db", empty, "--batch", "B1")
-    expect("the report of an empty file", ran, Ran(1, [], [f'refused code=81 cause=empty db="{empty}"', "refused 81"]))
+    wanted = Ran(1, [], [f'refused code=81 cause=empty db="{empty}"', "refused 81"])
+    expect("the book of an empty file", run(SHOPBOOK, "list", "--db", empty), wanted)
+    expect("the bytes of an empty file", empty.read_bytes(), b"")
+    expect("the report of an empty file", run(PERSOD, "report", "--db", empty, "--batch", "B1"), wanted)
+    if os.geteuid() != 0:
+        # Root may write to any file.
+        sound.chmod(0o444)
+        refused("no-right", sound)
+        sound.chmod(0o600)
     server = Server(PERSOD, sound, free_port())
     refused("in-use", sound)
     server.kill()
@@ -308,6 +316,24 @@ def served(folder: pathlib.Path) -> None:
         expect("the report", run(PERSOD, "report", "--db", database, "--batch", "B1"), Ran(0, REPORT.splitlines(), []))
 
 
+def reported(folder: pathlib.Path) -> None:
+    """Reads a report of 53 kB, over the socket and from the file."""
+    names = [f"RECORD-{place:025}" for place in range(1_024)]
+    batch = HEADER + "".join(f"{name},F00000000101,1,0,0,0101027000\n" for name in names)
+    counts = {"records": 1_024, "waiting": 1_024, "running": 0, "failed": 0, "withdrawn": 0, "good": 0, "sessions": 0, "spoiled": 0}
+    lines = ["batch B1", "product P1", "state open", *(f"record {name} waiting 0 -" for name in names)]
+    lines += [f"{label:<9} {count:>10}" for label, count in counts.items()]
+    database = folder / "reported.db"
+    server = Server(PERSOD, database, free_port(), 3)
+    expect("the product", exchange(server.port, STORY[0][0]), reply_bytes(200, STORY[0][2].encode()))
+    reply = '{"batch":"B1","records":1024,"result":"created","rows":1024}'
+    expect("the import", exchange(server.port, imported("office", 3, "B1", "P1", batch.encode())), reply_bytes(200, reply.encode()))
+    body = "".join(f"{line}\n" for line in lines).encode()
+    expect("the long report", exchange(server.port, get("/batch/B1/report")), reply_bytes(200, body, "text/plain"))
+    server.served()
+    expect("the printed report", run(PERSOD, "report", "--db", database, "--batch", "B1"), Ran(0, lines, []))
+
+
 def levels(folder: pathlib.Path) -> None:
     """Tries the values of PERSOD_LOG."""
     for value, is_on in (("", False), ("0", False), ("off", False), ("OFF", True), ("00", True), ("1", True), ("all", True)):
@@ -363,7 +389,7 @@ def books(folder: pathlib.Path) -> None:
 
 
 def main() -> None:
-    parts = [streams, causes, served, levels, killed, books]
+    parts = [streams, causes, served, reported, levels, killed, books]
     words()
     inputs()
     outputs()
