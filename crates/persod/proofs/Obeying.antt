@@ -19,7 +19,7 @@ use Rattle.subcommands.specs.Joins.{wanted_of}
 use Rattle.subcommands.specs.Runs.{Runs, product_of}
 use Rattle.subcommands.specs.declared.end.End.{End}
 use Rattle.subcommands.proofs.RunLemmas.{plans_of}
-use Rattle.persod.specs.Tasks.{EndsOver, Obeys, ReportsBatch, Serves, end_of_taken}
+use Rattle.persod.specs.Tasks.{EndsOver, Obeys, ReportsBatch, ServesOver, end_of_taken}
 use Rattle.persod.specs.declared.tasks.ReportTask.{ReportTask}
 use Rattle.persod.specs.declared.tasks.ServeTask.{ServeTask}
 
@@ -34,10 +34,10 @@ ends_over g image IsFresh wanted Ran (Err fault) end is ran refused = record { h
 
 module _ {D : Type 0} {g : Ghosts D} {image : Image} {IsFresh : Bool → D → Type 0} where
   pub obeys_serve : (task : ServeTask) (w : Words) (db : String Global) (wanted : Wanted) (end : End) → w ≡ words.Serve db task.port task.turns → wanted ≡ wanted_of w → task.path.now ≡ string_bytes db
-      → EndsOver g image IsFresh wanted (Serves task) end → Obeys g image IsFresh task.level w end
-  obeys_serve task w db wanted end is wants at ends =
+      → ServesOver g image IsFresh wanted task end → Obeys g image IsFresh task.level w end
+  obeys_serve task w db wanted end is wants at serves =
       let any : wanted ≡ Any = wants ∙ ap wanted_of is in
-      let over = subst (λ (x : Wanted). EndsOver g image IsFresh x (Serves task) end) any ends in
+      let over = subst (λ (x : Wanted). ServesOver g image IsFresh x task end) any serves in
       subst (λ (x : Words). Obeys g image IsFresh task.level x end) (sym is) (task, at, refl, refl, refl, over)
 
   pub obeys_report : (task : ReportTask) (w : Words) (db : String Global) (wanted : Wanted) (level : Level) (end : End) → w ≡ words.Report db task.batch → wanted ≡ wanted_of w

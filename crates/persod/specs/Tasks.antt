@@ -1,8 +1,13 @@
 -- The results of the tasks over the store in a database file (this project's profile). The bytes of
 -- the process's own streams are unknown.
-use Rattle.std.specs.Prelude.{◌≡◌, ◌⊎◌, ℕ, Bool, List, [], ◌∷◌, false, length, None, IfErr, OnOk, Result, Ok, Err, ⊤, string_bytes}
+use Rattle.std.proofs.Common.{inl, inr}
+use Rattle.std.specs.Prelude.{◌≡◌, ◌⊎◌, ℕ, Bool, List, [], ◌∷◌, ◌++◌, false, length, None, IfErr, OnOk, Result, Ok, Err, ⊤, string_bytes}
 use Rattle.std.specs.declared.io.ErrorKind.{ErrorKind}
+use Rattle.sqlite.specs.Files.{file_state, over_files}
+use Rattle.sqlite.specs.Held.{Held}
 use Rattle.sqlite.specs.Recovery.{Image}
+use Rattle.sqlite.specs.State.{HasCleanDisk}
+use Rattle.sqlite.specs.declared.FileStore.{FileStore}
 use Rattle.sqlite_disk.specs.declared.Disk.{Ghosts}
 use Rattle.arguments.specs.Words.{InRange}
 use Rattle.arguments.specs.declared.words.Words.{Words}
@@ -12,20 +17,27 @@ use Rattle.event_lines.specs.Notes.{NotesAll}
 use Rattle.event_lines.specs.declared.level.Level.{Level}
 use Rattle.job_facts.specs.declared.refusal.Refusal.TheVariants.{BatchUnknown}
 use Rattle.job_facts.specs.declared.store.StoreFault.{StoreFault}
+use Rattle.job_facts.specs.Contents.{AreSound, Contents}
 use Rattle.job_facts.specs.Store.{CountsFaults, State, Stays}
+use Rattle.reply_store.specs.Runs.{Tried}
 use Rattle.reports.specs.Answers.{MayReport, Reports, store_answer}
 use Rattle.reports.specs.Report.{report_text}
 use Rattle.reports.specs.declared.fault.AccountFault.{AccountFault}
-use Rattle.server.specs.Exchanges.{Exchange, ServesAll}
+use Rattle.schema.specs.Stores.{connection, stands_for}
+use Rattle.server.specs.Exchanges.{Exchange, ServesAll, tries}
 use Rattle.server_run.specs.ObservedRuns.{NotesRun}
 use Rattle.server_run.specs.ServerLines.{WritesLines}
 use Rattle.server_run.specs.declared.opening.Opened.{Opened}
 use Rattle.server_run.specs.declared.stopping.ServeStop.{ServeStop}
+use Rattle.over_tables.specs.Opens.{IsOpenedWith}
+use Rattle.over_tables.specs.Refusals.{IsRefused}
 use Rattle.over_tables.specs.declared.fault.FileFault.{FileFault}
 use Rattle.over_tables.specs.declared.opening.Wanted.{Wanted}
 use Rattle.over_tables.specs.declared.opening.Wanted.TheVariants.{Any, Ours}
-use Rattle.store_files.specs.Files.{IsNotTaken, MayHaveCommits, OverFiles, RunsOver}
+use Rattle.store_files.specs.Files.{IsAbsent, IsNotBegun, IsNotTaken, MayHaveCommits, OverFiles, RunsOver}
 use Rattle.store_files.specs.declared.file.Found.{Found}
+use Rattle.file_runs.specs.Files.{HoldRuns, IsLeftBy, IsLeftByCrash}
+use Rattle.file_runs.specs.Runs.{StartsAfterRuns}
 use Rattle.subcommands.specs.Ends.{end_of_account, end_of_file, end_of_serve_stop, end_of_words, exit_of}
 use Rattle.subcommands.specs.Joins.{end_of_close}
 use Rattle.subcommands.specs.Runs.{DrillRuns, Feeds, Plans, product_of}
@@ -104,6 +116,43 @@ pub record EndsOver {D : Type 0} (g : Ghosts D) (image : Image) (IsFresh : Bool 
   pub how : OverFiles g image (λ conn. RunsOver conn (MayHaveCommits image) wanted Ran end)
       ⊎ ((fault : FileFault) × (end ≡ end_of_file fault) × IsNotTaken g image IsFresh wanted fault)
 
+-- ---- runs of a server, one after another
+
+-- the connections that were served; none if the server couldn't listen
+abbrev pub exchanges_of : {task : ServeTask} {found : Found} {old last : State} {whole : Type 0} {Unclosed : StoreFault → Type 0} {end : End}
+    → ServesFile task found old last whole Unclosed end ⊎ LacksPort task old last whole Unclosed end → List Exchange
+exchanges_of (inl serves) = serves.exchanges
+exchanges_of (inr lacks) = []
+
+module _ {D : Type 0} {g : Ghosts D} (image : Image) (wanted : Wanted) where
+  -- Connections were served over the store in the files. If the files held the contents of the runs
+  -- before, or if this is the first run, the store was opened with these contents. Afterwards the
+  -- files hold the contents of all runs, whether the run ends with an ordinary exit or a crash.
+  pub record KeepsRuns (task : ServeTask) (end : End) (conn : Held (FileStore D g)) : Type 0 where
+    pub run : RunsOver conn (MayHaveCommits image) wanted (Serves task) end
+    pub begins : HasCleanDisk (file_state (connection run.store)) → (c : Contents) → IsOpenedWith wanted (file_state conn).now c
+        → AreSound c × ∥ StartsAfterRuns (stands_for over_files run.store) c [] ∥₁
+    pub finds : HasCleanDisk (file_state (connection run.store)) → (c : Contents) (runs : List (List Tried)) → HoldRuns image c runs
+        → ∥ StartsAfterRuns (stands_for over_files run.store) c runs ∥₁
+    pub keeps : (c : Contents) (runs : List (List Tried)) (left : Image) → AreSound c → ∥ StartsAfterRuns (stands_for over_files run.store) c runs ∥₁
+        → IsLeftBy (connection run.ran.0) left → HoldRuns left c (runs ++ tries (exchanges_of run.ran.1) ∷ [])
+
+  -- The database is refused, and its files still hold the contents of the runs before.
+  pub record RefusesRuns (fault : FileFault) (conn : Held (FileStore D g)) : Type 0 where
+    pub after : Held (FileStore D g)
+    pub refused : IsRefused wanted (file_state conn) (file_state after) fault
+    pub keeps : (c : Contents) (runs : List (List Tried)) (left : Image) → HoldRuns image c runs → IsLeftByCrash after left → HoldRuns left c runs
+
+module _ {D : Type 0} (g : Ghosts D) (image : Image) (IsFresh : Bool → D → Type 0) (wanted : Wanted) where
+  -- The fault says why no server ran.
+  abbrev pub IsNotServed : FileFault → Type 0
+  IsNotServed fault = IsAbsent wanted fault ⊎ (IsNotBegun g image IsFresh fault ⊎ OverFiles g image (RefusesRuns image wanted fault))
+
+  -- The server ran over the store in the files, and has the end `end`. Or it didn't run, and `end`
+  -- is the end for the fault that says why.
+  pub record ServesOver (task : ServeTask) (end : End) : Type 0 where
+    pub how : OverFiles g image (KeepsRuns image wanted task end) ⊎ ((fault : FileFault) × (end ≡ end_of_file fault) × IsNotServed fault)
+
 -- ---- a run of the program
 
 module _ {D : Type 0} (g : Ghosts D) (image : Image) (IsFresh : Bool → D → Type 0) where
@@ -111,7 +160,7 @@ module _ {D : Type 0} (g : Ghosts D) (image : Image) (IsFresh : Bool → D → T
   -- a database file
   abbrev pub Obeys : Level → Words → End → Type 0
   Obeys level (words.Serve db port turns) end =
-      (task : ServeTask) × (task.path.now ≡ string_bytes db) × (task.port ≡ port) × (task.turns ≡ turns) × (task.level ≡ level) × EndsOver g image IsFresh Any (Serves task) end
+      (task : ServeTask) × (task.path.now ≡ string_bytes db) × (task.port ≡ port) × (task.turns ≡ turns) × (task.level ≡ level) × ServesOver g image IsFresh Any task end
   Obeys level (words.Report db batch) end = (task : ReportTask) × (task.batch ≡ batch) × EndsOver g image IsFresh Ours (ReportsBatch task) end
   Obeys level (words.Feed port start) end = Feeds start None None None None None end
   Obeys level (words.Plan max low check) end = Plans (product_of max low check) None None None end

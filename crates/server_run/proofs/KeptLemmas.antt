@@ -35,6 +35,11 @@ pub offered-is : (none slice taken first buf new : List ℕ) → none ≡ [] →
     → new ≡ take 512 (take 512 taken ++ buf)
 offered-is none slice taken first buf new empty same front is = rw (is, front, empty, same) refl
 
+-- the same, without the limit of the bytes taken
+pub offered-now : (none slice taken first buf new : List ℕ) → none ≡ [] → slice ≡ taken → first ≡ take 512 (none ++ slice) → new ≡ take 512 (first ++ buf)
+    → new ≡ take 512 (taken ++ buf)
+offered-now none slice taken first buf new empty same front is = offered-is none slice taken first buf new empty same front is ∙ front_more 512 taken buf
+
 -- the writer takes none of the bytes
 pub offered_none : (before now after : Option (List ℕ)) (taken offered buf new : List ℕ) → Keeps now after → new ≡ take 512 (take 512 taken ++ buf)
     → KeepsWritten before now taken offered → KeepsWritten before after taken new

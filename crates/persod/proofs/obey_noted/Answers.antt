@@ -7,12 +7,12 @@ use Rattle.persod.proofs.obey_noted.Goals as goal
 pub returns-in-Serve : goal.returns-in-Serve
 returns-in-Serve g c =
     let task : ServeTask = record { rt = c.args.rt; path = c.as_str-path.result; port = c.in-Serve.port; turns = c.in-Serve.turns; level = c.args.level } in
-    obeys_serve task c.args.words c.in-Serve.db c.wanted_of-wanted.result c.over_file.result c.in-Serve.is c.wanted_of-wanted.ensures c.as_str-path.ensures.value c.over_file.ensures
+    obeys_serve task c.args.words c.in-Serve.db c.wanted_of-wanted.result c.serve.result c.in-Serve.is c.wanted_of-wanted.ensures c.as_str-path.ensures.value c.serve.ensures
 
 pub returns-in-Report : goal.returns-in-Report
 returns-in-Report g c =
     let task : ReportTask = record { rt = c.args.rt; batch = c.in-Report.batch } in
-    obeys_report task c.args.words c.in-Report.db c.wanted_of-wanted.result c.args.level c.over_file-in-Report.result c.in-Report.is c.wanted_of-wanted.ensures c.over_file-in-Report.ensures
+    obeys_report task c.args.words c.in-Report.db c.wanted_of-wanted.result c.args.level c.over_file.result c.in-Report.is c.wanted_of-wanted.ensures c.over_file.ensures
 
 pub returns-in-Feed : goal.returns-in-Feed
 returns-in-Feed g c = rw c.in-Feed.is c.feed.ensures.feeds
