@@ -56,7 +56,7 @@ CONTRACTS = {
     "batch, session, segment": (1, 7, 1, "store_reads", "the result of each read"),
     "commit": (2, 7, 1, "change_writes", "one transaction"),
     "adopt": (3, 7, 1, "adoption", "opens sound databases"),
-    "sort_and_audit": (4, 7, 1, "audit_rows", "finds whether rows are sound"),
+    "examine": (4, 7, 1, "examination", "finds what a database is"),
     "rows_of, run_each": (1, 8, 2, "sql_base, sql_tables", "the effect of a statement, for any schema"),
     "remake": (3, 8, 1, "remaking", "rebuilds the tables"),
     "Connection, Transaction": (1, 9, 2, "sqlite", "trusted contracts of the toolchain; premise: a correct device"),
@@ -71,6 +71,7 @@ CONTRACTS = {
     "after_card, after_reply": (4, 4, 1, "feeder", "Table.antt"),
 }
 BENDS = {
+    ("examine", "rows_of, run_each"): ((1010, 728), (1010, 834), (640, 834), (640, 818)),
     ("Tests", "Tables and files"): ((20, 48), (9, 48), (9, 220), (20, 220)),
     ("Server", "Repeated requests"): ((850, 439), (871, 439), (871, 674), (850, 674)),  # drawn although Server leads there through Messages
     ("Feeder", "after_card, after_reply"): ((1110, 159), (1126, 159), (1126, 429), (1110, 429)),

@@ -1,7 +1,6 @@
-pub mod Judging
+mod Judging
 pub mod Causes
 mod Answered
 mod Settled
 mod Taken
-mod Unread
 mod Unwritten

@@ -14,12 +14,11 @@ use Rattle.table_reads.specs.Rowids.{StandAsMade}
 use Rattle.table_reads.specs.Holding.{HoldsRows}
 use Rattle.sql_rows.specs.Image.{IsImage}
 use Rattle.sql_rows.proofs.SameRows.{same_rows}
-use Rattle.sql_tables.specs.Tables.{our_schema}
 use Rattle.audit_rows.proofs.SoundLemmas.{same_back}
 use Rattle.table_reads.specs.Unread.{without_reply_bytes}
-use Rattle.table_reads.specs.declared.tables.HeldRows.{HeldRows}
 use Rattle.table_reads.proofs.After.{kept_then}
 use Rattle.remaking.specs.Remakes.{Remakes}
+use Rattle.examination.specs.declared.finding.ExaminedRows.{ExaminedRows}
 use Rattle.adoption.specs.Adopts.{Settles}
 use Rattle.adoption.specs.Comes.{Comes}
 use Rattle.adoption.specs.Reading.{IsReading}
@@ -41,16 +40,16 @@ abbrev pub ImageLaw : Type 0
 ImageLaw = (v : Version) (t : Tables) (db : Database) → HoldsRows v t db → IsDatabase db → StandAsMade db → IsImage t db
 
 -- The tables and the connection are unchanged.
-module _ {S : Type 0} (g : Ghosts S) (law : (s : S) (db : Trees) → IsTrue (g.view s).is_open → g.recovers s db → db ≡ (g.view s).committed) (old new : Held S) (v : Version) (read : HeldRows)
+module _ {S : Type 0} (g : Ghosts S) (law : (s : S) (db : Trees) → IsTrue (g.view s).is_open → g.recovers s db → db ≡ (g.view s).committed) (old new : Held S) (read : ExaminedRows)
     (image : ImageLaw) (settled : IsTrue (state g old).is_open → (state g old).now ≡ (state g old).committed) (live : IsLive (state g old)) (clean : HasCleanDisk (state g new))
-    (ours : (state g old).now.schema ≡ our_schema) (apart : IsTrue read.apart) (kept : IsKept (state g old) (state g new)) (survives : Survives (state g old) (state g new) (λ _. ⊥)) where
-  pub stays : {E : Type 0} (r : Result (Unit {0}) E) → OnOk r (IsTrue (state g new).is_open) → OnOk r (Comes (Settles v read) (state g old) (state g new))
+    (as_made : IsTrue read.as_made) (kept : IsKept (state g old) (state g new)) (survives : Survives (state g old) (state g new) (λ _. ⊥)) where
+  pub stays : {E : Type 0} (r : Result (Unit {0}) E) → OnOk r (IsTrue (state g new).is_open) → OnOk r (Comes (Settles read) (state g old) (state g new))
   stays (Err e) shown = tt
   stays (Ok u) shown =
       let was_open = kept.was_open shown in
       record {
         db = (state g old).now;
-        made = λ t is. image v t (state g old).now is.rows (live was_open).0 (ours, (is.apart ours).0 apart);
+        made = λ t is. image read.version t (state g old).now is.rows (live was_open).0 (is.as_made.0 as_made);
         shown = kept.now_is;
         only = only_now g law old new was_open (settled was_open) clean survives;
         was_open = was_open;
@@ -75,21 +74,21 @@ module _ (old new : State) (settled : IsTrue old.is_open → old.now ≡ old.com
   not_run_kept sql e (inr failed) = rolled_kept failed.3
 
 -- rows that were read again, with the bytes of replies
-pub read_whole : (v : Version) (read : HeldRows) (db : Database) (found : Option Tables) (all : Tables) → found ≡ Some all
-    → ((w : Version) (t : Tables) → HoldsRows w t db → HaveSameRows read.tables (without_reply_bytes t) → MatchOption found ⊥ (λ rows. HaveSameRows rows t)) → (t : Tables) → IsReading v t db read → HaveSameRows all t
-read_whole v read db found all some value t is = subst (λ x. MatchOption x ⊥ (λ rows. HaveSameRows rows t)) some (value v t is.rows is.same)
+pub read_whole : (read : ExaminedRows) (db : Database) (found : Option Tables) (all : Tables) → found ≡ Some all
+    → ((w : Version) (t : Tables) → HoldsRows w t db → HaveSameRows read.tables (without_reply_bytes t) → MatchOption found ⊥ (λ rows. HaveSameRows rows t)) → (t : Tables) → IsReading t db read → HaveSameRows all t
+read_whole read db found all some value t is = subst (λ x. MatchOption x ⊥ (λ rows. HaveSameRows rows t)) some (value read.version t is.rows is.same)
 
 -- the complete rows for `read`, with which the tables are rebuilt
-module _ (v : Version) (read : HeldRows) (all : Tables) (old mid new : State) (kept : HasCleanDisk mid → IsKept old mid) (live : IsLive old)
-    (whole : HasCleanDisk mid → (t : Tables) → IsReading v t old.now read → HaveSameRows all t) where
-  turned : HasCleanDisk mid → IsTrue mid.is_open → (db : Database) → Remakes v all mid.now db → Settles v read old.now db
+module _ (read : ExaminedRows) (all : Tables) (old mid new : State) (kept : HasCleanDisk mid → IsKept old mid) (live : IsLive old)
+    (whole : HasCleanDisk mid → (t : Tables) → IsReading t old.now read → HaveSameRows all t) where
+  turned : HasCleanDisk mid → IsTrue mid.is_open → (db : Database) → Remakes read.version all mid.now db → Settles read old.now db
   turned clean shown db made t is =
       let k = kept clean in
       let same = sym (k.now_is shown) in
-      let stands : IsImage all db = made (subst (λ (d : Database). IsDatabase d) same (live (k.was_open shown)).0) (subst (λ (d : Database). HoldsRows v t d) same is.rows).just in
+      let stands : IsImage all db = made (subst (λ (d : Database). IsDatabase d) same (live (k.was_open shown)).0) (subst (λ (d : Database). HoldsRows read.version t d) same is.rows).just in
       same_rows t all db (same_back all t (whole clean t is)) stands
 
-  pub remade : {E : Type 0} (r : Result (Unit {0}) E) → HasCleanDisk mid → OnOk r (Ends (Remakes v all) mid new) → OnOk r (Comes (Settles v read) old new)
+  pub remade : {E : Type 0} (r : Result (Unit {0}) E) → HasCleanDisk mid → OnOk r (Ends (Remakes read.version all) mid new) → OnOk r (Comes (Settles read) old new)
   remade (Err e) clean ends = tt
   remade (Ok u) clean ends = record {
     db = new.now;
@@ -104,7 +103,7 @@ module _ (v : Version) (read : HeldRows) (all : Tables) (old mid new : State) (k
   kept_remade (Err e) clean still = kept_then old mid new (kept clean) still
   kept_remade (Ok u) clean still = tt
 
-  pub left_remade : Survives old mid (λ _. ⊥) → Survives mid new (IsLeft (Remakes v all) mid) → Survives old new (IsLeft (Settles v read) old)
+  pub left_remade : Survives old mid (λ _. ⊥) → Survives mid new (IsLeft (Remakes read.version all) mid) → Survives old new (IsLeft (Settles read) old)
   left_remade before last =
-      survives_then old mid new (λ _. ⊥) (IsLeft (Remakes v all) mid) (IsLeft (Settles v read) old) (λ _ db none. absurd none)
+      survives_then old mid new (λ _. ⊥) (IsLeft (Remakes read.version all) mid) (IsLeft (Settles read) old) (λ _ db none. absurd none)
       (λ clean db it. let early : HasCleanDisk mid = omega (arith, last.clean) in ((kept early).was_open it.0, (it.1.0, turned early it.0 it.1.0 it.1.1, it.1.2))) before last

@@ -10,36 +10,35 @@ use Rattle.sql_tables.specs.declared.versions.Version.{Version}
 use Rattle.sql_rows.proofs.SameRows.{same_rows}
 use Rattle.audit_rows.proofs.SoundLemmas.{same_back}
 use Rattle.table_reads.specs.Holding.{HoldsRows}
-use Rattle.table_reads.specs.declared.tables.HeldRows.{HeldRows}
-use Rattle.adoption.specs.Findings.{HoldsAsRead}
+use Rattle.examination.specs.declared.finding.ExaminedRows.{ExaminedRows}
 use Rattle.adoption.specs.Adopts.{Adopts, Settles}
 use Rattle.adoption.specs.Comes.{Comes}
-use Rattle.adoption.specs.Reading.{IsReading}
+use Rattle.adoption.specs.Reading.{HoldsAsRead, IsReading}
 use Rattle.adoption.specs.Unwritten.{LeavesOurs}
 
 -- the lemma that a database holds its rows in any order
 abbrev pub OrderLaw : Type 0
 OrderLaw = (v : Version) (t u : Tables) (db : Database) → HaveSameRows t u → HoldsRows v u db → HoldsRows v t db
 
-pub adopted : OrderLaw → (v : Version) (read : HeldRows) (old new : Database) → HoldsAsRead v read old → Settles v read old new → Adopts old new
-adopted law v read old new found settles =
+pub adopted : OrderLaw → (read : ExaminedRows) (old new : Database) → HoldsAsRead read old → Settles read old new → Adopts old new
+adopted law read old new found settles =
     let t = found.0 in
     let c = found.2.0 in
     let same = same_back t (image c) found.2.2 in
     record {
-      version = v;
+      version = read.version;
       contents = c;
       sound = found.2.1;
-      held = law v (image c) t old same found.1.rows;
+      held = law read.version (image c) t old same found.1.rows;
       stands = same_rows (image c) t new same (settles t found.1);
     }
 
--- an audit, followed by `settle`
-module _ (law : OrderLaw) (v : Version) (read : HeldRows) (old mid new : State) (kept : HasCleanDisk mid → IsKept old mid) (found : HasCleanDisk mid → HoldsAsRead v read old.now) where
-  turned : HasCleanDisk mid → IsTrue mid.is_open → (db : Database) → Settles v read mid.now db → Adopts old.now db
-  turned clean shown db settles = adopted law v read old.now db (found clean) (subst (λ (d : Database). Settles v read d db) ((kept clean).now_is shown) settles)
+-- an examination, followed by `settle`
+module _ (law : OrderLaw) (read : ExaminedRows) (old mid new : State) (kept : HasCleanDisk mid → IsKept old mid) (found : HasCleanDisk mid → HoldsAsRead read old.now) where
+  turned : HasCleanDisk mid → IsTrue mid.is_open → (db : Database) → Settles read mid.now db → Adopts old.now db
+  turned clean shown db settles = adopted law read old.now db (found clean) (subst (λ (d : Database). Settles read d db) ((kept clean).now_is shown) settles)
 
-  pub taken : HasCleanDisk mid → Comes (Settles v read) mid new → Comes Adopts old new
+  pub taken : HasCleanDisk mid → Comes (Settles read) mid new → Comes Adopts old new
   taken clean comes = record {
     db = comes.db;
     made = turned clean comes.was_open comes.db comes.made;
@@ -49,11 +48,11 @@ module _ (law : OrderLaw) (v : Version) (read : HeldRows) (old mid new : State) 
     is_open = comes.is_open;
   }
 
-  pub left_taken : Survives old mid (λ _. ⊥) → Survives mid new (IsLeft (Settles v read) mid) → Survives old new (IsLeft Adopts old)
+  pub left_taken : Survives old mid (λ _. ⊥) → Survives mid new (IsLeft (Settles read) mid) → Survives old new (IsLeft Adopts old)
   left_taken before last =
-      survives_then old mid new (λ _. ⊥) (IsLeft (Settles v read) mid) (IsLeft Adopts old) (λ _ db none. absurd none)
+      survives_then old mid new (λ _. ⊥) (IsLeft (Settles read) mid) (IsLeft Adopts old) (λ _ db none. absurd none)
       (λ clean db it. let early : HasCleanDisk mid = omega (arith, last.clean) in ((kept early).was_open it.0, (it.1.0, turned early it.0 it.1.0 it.1.1, it.1.2))) before last
 
   -- `settle` leaves the trees unchanged if the database holds the rows that were read.
-  pub leaves_as_read : ((t : Tables) → IsReading v t mid.now read → LeavesOurs mid new) → HasCleanDisk mid → IsTrue mid.is_open → LeavesOurs mid new
-  leaves_as_read leaves clean live = let it = found clean in leaves it.0 (subst (λ (d : Database). IsReading v it.0 d read) (sym ((kept clean).now_is live)) it.1)
+  pub leaves_as_read : ((t : Tables) → IsReading t mid.now read → LeavesOurs mid new) → HasCleanDisk mid → IsTrue mid.is_open → LeavesOurs mid new
+  leaves_as_read leaves clean live = let it = found clean in leaves it.0 (subst (λ (d : Database). IsReading it.0 d read) (sym ((kept clean).now_is live)) it.1)

@@ -6,13 +6,12 @@ use Rattle.image_laws.specs.Image.{image}
 use Rattle.sql_tables.specs.declared.versions.Version.{Version}
 use Rattle.sql_rows.specs.Image.{IsImage}
 use Rattle.table_reads.specs.Holding.{HoldsRows}
-use Rattle.table_reads.specs.declared.tables.HeldRows.{HeldRows}
+use Rattle.examination.specs.declared.finding.ExaminedRows.{ExaminedRows}
 use Rattle.adoption.specs.Reading.{IsReading}
 
--- The rows that the audit read from the tables of version `v` are in the tables of the current
--- schema.
-abbrev pub Settles : Version → HeldRows → Database → Database → Type 0
-Settles v read old new = (t : Tables) → IsReading v t old read → IsImage t new
+-- The rows that were read are in the tables of the current schema.
+abbrev pub Settles : ExaminedRows → Database → Database → Type 0
+Settles read old new = (t : Tables) → IsReading t old read → IsImage t new
 
 -- The rows of sound contents, in the tables of some schema version, are in the tables of the
 -- current schema.

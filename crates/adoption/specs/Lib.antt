@@ -1,5 +1,4 @@
 pub mod Reading
-pub mod Findings
 pub mod Comes
 pub mod Adopts
 pub mod Faults

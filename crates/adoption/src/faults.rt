@@ -2,18 +2,20 @@
 ghost use Rattle.std.specs.Prelude.{◌≡◌};
 ghost use Rattle.adoption.specs.Faults.{fault_for};
 
+use examination::{Damage, Difference};
 use job_facts::StoreFault;
 use sqlite::{Error, ErrorCode};
 
-/// The reason why no store was opened over a database.
-#[derive(Clone, Copy, Debug, PartialEq, Eq)]
+/// The reason why no store was opened over a database, with the cause of a refusal.
+#[derive(Debug, Drop, PartialEq, Eq)]
 pub enum OpenFault {
-    /// The tables aren't as required: a new store needs an empty database, and an existing store
-    /// needs the tables of a schema version (refusal 81).
-    NotOurs,
+    /// A new store needs an empty database, and the database isn't empty (refusal 81).
+    NotEmpty,
+    /// The tables aren't the tables of any schema version (refusal 81).
+    NotOurs { difference: Difference },
     /// The tables are the tables of a schema version, but the rows aren't the rows of sound
     /// contents (refusal 82).
-    Damaged,
+    Damaged { damage: Damage },
     /// A fault of the store itself.
     Store { fault: StoreFault },
 }

@@ -2,9 +2,7 @@
 #![tactic(auto)]
 
 mod adopting;
-mod auditing;
 mod faults;
-mod ours;
 mod settling;
 
 pub use adopting::adopt;

@@ -11,13 +11,11 @@ ghost use Rattle.adoption.specs.Comes.{Comes};
 ghost use Rattle.adoption.specs.Reading.{IsReading};
 ghost use Rattle.adoption.specs.Unwritten.{LeavesOurs};
 
-use crate::ours::can_stay;
+use examination::ExaminedRows;
 use remaking::remake;
 use sql_base::laws;
-use sql_tables::Version;
 use sqlite::{Alter, Connection, Error};
-use std::alloc::Global;
-use table_reads::{HeldRows, with_reply_bytes};
+use table_reads::with_reply_bytes;
 
 // Checks that the connection is still open, because a fault at the end of a read may have closed
 // it. Nothing is changed.
@@ -32,23 +30,19 @@ fn stay_open<S: Alter>(conn: &mut Connection<S>) -> Result<(), Error>
     Ok(())
 }
 
-// Rebuilds the tables of the current schema, with the same rows. The reply bytes are read again,
-// because the audit skips them. Returns `InvalidQuery` if the rows have changed since the audit.
+// Rebuilds the tables of the current schema, with the same rows. The reply bytes are read now,
+// because `examine` skips them. Returns `InvalidQuery` if the rows have changed since then.
 // This happens only if the disk returned wrong data without an error, so it isn't reported as a
 // disk error.
-fn rebuild<S: Alter>(
-    conn: &mut Connection<S>,
-    version: Version,
-    rows: HeldRows,
-) -> Result<(), Error>
+fn rebuild<S: Alter>(conn: &mut Connection<S>, rows: ExaminedRows) -> Result<(), Error>
     requires idle { conn.old.in_transaction ≡ false }
     ensures ok { HasCleanDisk (state S.Store conn.new) → OnOk result
-        (Comes (Settles version rows) (state S.Store conn.old) (state S.Store conn.new)) }
+        (Comes (Settles rows) (state S.Store conn.old) (state S.Store conn.new)) }
     ensures kept { HasCleanDisk (state S.Store conn.new)
         → OnErr result (IsKept (state S.Store conn.old) (state S.Store conn.new)) }
     ensures idle { conn.new.in_transaction ≡ false }
     ensures crash { Survives (state S.Store conn.old) (state S.Store conn.new)
-        (IsLeft (Settles version rows) (state S.Store conn.old)) }
+        (IsLeft (Settles rows) (state S.Store conn.old)) }
     ensures cause { HasCleanDisk (state S.Store conn.new) → IfErr result
         (HadCause S.Store (state S.Store conn.old) (state S.Store conn.new)) }
 {
@@ -56,37 +50,32 @@ fn rebuild<S: Alter>(
     let Some(whole) = with_reply_bytes(conn, rows.tables)? else {
         return Err(Error::InvalidQuery);
     };
-    remake(conn, version, &whole)
+    remake(conn, rows.version, &whole)
 }
 
 /// Leaves the database unchanged, up to the last byte of each tree, if its tables are exactly as
 /// the store creates them. Otherwise rebuilds the tables with the same rows in one transaction, and
 /// reads the replies again with their bytes. After a crash the database is as it could be before
 /// the call, or completely rebuilt.
-pub(crate) fn settle<S: Alter>(
-    alloc: Global,
-    conn: &mut Connection<S>,
-    version: Version,
-    rows: HeldRows,
-) -> Result<(), Error>
+pub(crate) fn settle<S: Alter>(conn: &mut Connection<S>, rows: ExaminedRows) -> Result<(), Error>
     requires idle { conn.old.in_transaction ≡ false }
     ensures ok { HasCleanDisk (state S.Store conn.new) → OnOk result
-        (Comes (Settles version rows) (state S.Store conn.old) (state S.Store conn.new)) }
+        (Comes (Settles rows) (state S.Store conn.old) (state S.Store conn.new)) }
     ensures kept { HasCleanDisk (state S.Store conn.new)
         → OnErr result (IsKept (state S.Store conn.old) (state S.Store conn.new)) }
-    ensures unchanged { (t : Tables) → IsReading version t (state S.Store conn.old).now rows
+    ensures unchanged { (t : Tables) → IsReading t (state S.Store conn.old).now rows
         → LeavesOurs (state S.Store conn.old) (state S.Store conn.new) }
     ensures idle { conn.new.in_transaction ≡ false }
     ensures crash { Survives (state S.Store conn.old) (state S.Store conn.new)
-        (IsLeft (Settles version rows) (state S.Store conn.old)) }
+        (IsLeft (Settles rows) (state S.Store conn.old)) }
     ensures cause { HasCleanDisk (state S.Store conn.new) → IfErr result
         (HadCause S.Store (state S.Store conn.old) (state S.Store conn.new)) }
 {
     table_reads::laws::our_rows_are_an_image();
     laws::is_committed(conn);
     laws::is_live(conn);
-    if can_stay(alloc, conn, rows.apart)? {
+    if rows.as_made {
         return stay_open(conn);
     }
-    rebuild(conn, version, rows)
+    rebuild(conn, rows)
 }

@@ -1,4 +1,3 @@
-mod Answering
 mod Fresh
 mod Handing
 mod Judging

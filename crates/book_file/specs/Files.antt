@@ -18,7 +18,7 @@ use Rattle.sqlite.specs.declared.file.Leftover.{Leftover}
 use Rattle.sqlite_disk.specs.declared.Disk as disk
 use Rattle.sqlite_disk.specs.declared.Files.{Files}
 use Rattle.sqlite_disk.specs.declared.Start as start
-use Rattle.file_causes.specs.declared.difference.Difference.TheVariants.{Empty}
+use Rattle.examination.specs.declared.difference.Difference.TheVariants.{Empty}
 use Rattle.over_tables.specs.Refusals.{Explains}
 use Rattle.over_tables.specs.declared.cause.Cause.TheVariants.{NoFile, Tables}
 use Rattle.over_tables.specs.declared.fault.FileFault.{FileFault}

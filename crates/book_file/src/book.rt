@@ -10,7 +10,7 @@ pub struct Book {
     pub version: Version,
     /// The first audit rule that the rows break, or `None` if they are the rows of sound contents.
     pub failing: Option<Rule>,
-    /// The rows of all tables, sorted.
+    /// The rows of all tables, sorted. Replies are without their request bytes and bodies.
     pub tables: Tables,
     /// The size of the database file in bytes, if it is known.
     pub size: Option<u64>,

@@ -11,7 +11,7 @@ use crate::book::Book;
 use crate::guarded::Guarded;
 use crate::opening::{GuardedFile, open_guarded};
 use crate::reading::read_book;
-use file_causes::Difference;
+use examination::Difference;
 use over_tables::{Cause, FileFault};
 use sqlite::{Connection, Error, ErrorCode, FileFrom, FileStore};
 use sqlite_disk::{self, Disk, Start};

@@ -3,7 +3,6 @@
 
 mod book;
 mod file;
-mod finding;
 mod guarded;
 mod opening;
 mod reading;

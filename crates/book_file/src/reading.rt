@@ -3,23 +3,28 @@ ghost use Rattle.std.specs.Prelude.{◌≡◌, false, IfErr, IfOk};
 ghost use Rattle.sqlite.specs.Held.{state};
 ghost use Rattle.sqlite.specs.State.{HasCleanDisk};
 ghost use Rattle.sql_base.specs.Unchanged.{Looks};
-ghost use Rattle.over_tables.specs.Refusals.{Explains};
+ghost use Rattle.over_tables.specs.Refusals.{Explains, ReportsStorage};
 ghost use Rattle.book_file.specs.Found.{HasVerdict, IsFound, answer_of};
 
 use crate::book::Book;
-use crate::finding::{Finding, find};
 use adoption::fault_of;
-use file_causes::Damage;
+use examination::{Damage, Finding, examine};
 use over_tables::{Cause, FileFault};
 use sqlite::{Alter, Connection, Error};
 use std::alloc::Global;
 
-// Returns the book, or the fault for what was found instead.
+// Returns the book, or the fault that says why there is none. Rows that break an audit rule aren't
+// a fault.
 fn answer_of(found: Result<Finding, Error>) -> Result<Book, FileFault>
     ensures { result ≡ answer_of found }
 {
     match found {
-        Ok(Finding::Read { book }) => Ok(book),
+        Ok(Finding::Read { rows, failing }) => Ok(Book {
+            version: rows.version,
+            failing,
+            tables: rows.tables,
+            size: None,
+        }),
         Ok(Finding::NotOurs { difference }) => {
             let cause = Cause::Tables { difference };
             Err(FileFault::NotOurs { cause })
@@ -33,8 +38,9 @@ fn answer_of(found: Result<Finding, Error>) -> Result<Book, FileFault>
 }
 
 /// Returns the rows of a database, sorted, with its schema version and the first audit rule that
-/// they break. All tables are read into memory completely. Nothing is written, and a crash leaves
-/// what it could leave before.
+/// they break. All tables are read into memory, without the request bytes and bodies of replies,
+/// which no subcommand of `shopbook` prints. Nothing is written, and a crash leaves what it could
+/// leave before.
 ///
 /// # Errors
 ///
@@ -49,7 +55,11 @@ pub fn read_book<S: Alter>(alloc: Global, conn: &mut Connection<S>) -> Result<Bo
     ensures verdict { IfOk result (λ book. HasVerdict book.tables book.failing) }
     ensures why { HasCleanDisk (state S.Store conn.new)
         → IfErr result (Explains (state S.Store conn.old).now) }
+    ensures storage { HasCleanDisk (state S.Store conn.new) → IfErr result
+        (λ fault. fault ≡ FileFault.Storage
+        → ReportsStorage S.Store (state S.Store conn.old) (state S.Store conn.new)) }
     ensures looks { Looks (state S.Store conn.old) (state S.Store conn.new) }
 {
-    answer_of(find(alloc, conn))
+    audit_laws::sound_rows_are_audited();
+    answer_of(examine(alloc, conn))
 }

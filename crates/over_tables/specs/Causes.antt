@@ -1,6 +1,6 @@
 -- The words for the causes of refusal 81, in messages and event lines (this project's profile).
 use Rattle.std.specs.Prelude.{ℕ, List, codes, Option, None, Some}
-use Rattle.file_causes.specs.Words as tables
+use Rattle.examination.specs.Words as tables
 use Rattle.over_tables.specs.declared.cause.Cause.{Cause}
 use Rattle.over_tables.specs.declared.cause.Cause.TheVariants.{NoFile, NoFolder, Folder, Special, NoRight, Journal, InUse, NotSqlite, Invalid, Corrupt, CannotOpen, DamagedWal, Tables}
 

@@ -2,7 +2,7 @@
 ghost use Rattle.std.specs.Prelude.{◌≡◌, Some, option_map};
 ghost use Rattle.over_tables.specs.Causes.{commits_in, name_in, word_of};
 
-use file_causes::Difference;
+use examination::Difference;
 use std::fmt;
 
 /// The reason why a database file is refused with number 81.

@@ -41,6 +41,6 @@ fn begun(alloc: Global) -> Result<SqlStore<MemStore>, StoreFault>
     match SqlStore::create(alloc, conn) {
         Ok(store) => Ok(store),
         Err((_, OpenFault::Store { fault })) => Err(fault),
-        Err((_, OpenFault::NotOurs | OpenFault::Damaged)) => Err(StoreFault::Device),
+        Err(_) => Err(StoreFault::Device),
     }
 }

@@ -1,11 +1,8 @@
 //! The faults of opening a database file.
-ghost use Rattle.std.specs.Prelude.{◌≡◌};
-ghost use Rattle.over_tables.specs.Faults.{of_later};
-
 use crate::cause::Cause;
-use file_causes::Damage;
+use examination::Damage;
 use job_facts::StoreFault;
-use sqlite::{Error, ErrorCode};
+use schema::OpenFault;
 use std::alloc::AllocError;
 
 /// The number of the refusal of a file that SQLite can't open, or whose tables don't have the form
@@ -55,13 +52,22 @@ impl From<AllocError> for FileFault {
     }
 }
 
-// Returns the fault for an error after the tables were read successfully. Only an allocation or the
-// device can be the reason.
-pub(crate) fn later(error: Error) -> FileFault
-    ensures { result ≡ of_later error }
-{
-    match error {
-        Error::SqliteFailure(ErrorCode::OutOfMemory) => FileFault::Memory,
-        _ => FileFault::Storage,
+// A database was empty before a store was created in it. If it isn't empty then, the device has
+// failed.
+impl From<OpenFault> for FileFault {
+    ghost use Rattle.std.specs.Prelude.{◌≡◌};
+    ghost use Rattle.over_tables.specs.Faults.{of_open};
+
+    ghost from_gives = { λ cause fault. fault ≡ of_open cause };
+
+    fn from(cause: OpenFault) -> FileFault {
+        match cause {
+            OpenFault::NotEmpty => FileFault::Storage,
+            OpenFault::NotOurs { difference } => FileFault::NotOurs {
+                cause: Cause::Tables { difference },
+            },
+            OpenFault::Damaged { damage } => FileFault::Damaged { cause: damage },
+            OpenFault::Store { fault } => FileFault::from(fault),
+        }
     }
 }

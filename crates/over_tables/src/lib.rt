@@ -1,4 +1,4 @@
-//! Opens the store over a database, or finds why the database is refused. Runs a server over a
+//! Opens the store over a database, or returns why the database is refused. Runs a server over a
 //! database file, and a drill over a database in memory.
 #![tactic(auto)]
 
@@ -7,7 +7,6 @@ mod drilling;
 mod fault;
 pub mod laws;
 mod opening;
-mod refusing;
 mod serving;
 
 pub use cause::Cause;

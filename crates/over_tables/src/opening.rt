@@ -7,10 +7,9 @@ ghost use Rattle.schema.specs.Left.{TakesAt};
 ghost use Rattle.schema.specs.Link.{Stands};
 ghost use Rattle.schema.specs.Stores.{connection, stands_for};
 ghost use Rattle.over_tables.specs.Opens.{Begins, IsOlder, IsOpened, older_number};
-ghost use Rattle.over_tables.specs.Refusals.{IsDamaged, IsNotOurs, IsRefused};
+ghost use Rattle.over_tables.specs.Refusals.{IsDamaged, IsNotOurs, IsRefused, ReportsStorage};
 
 use crate::fault::FileFault;
-use crate::refusing::with_cause;
 use schema::SqlStore;
 use sql_base::is_empty;
 use sql_tables::{Version, version_in};
@@ -67,12 +66,11 @@ fn older_number(found: Option<Version>) -> Option<u8>
 ///
 /// # Errors
 ///
-/// Returns the connection with one of these faults. The database is unchanged. To find the cause of
-/// a refusal, its schema or all its rows are read again.
+/// Returns the connection with one of these faults. The database is unchanged.
 ///
 /// - `NotOurs`: the tables don't have the form of any schema version (refusal 81).
 /// - `Damaged`: the rows don't represent sound contents (refusal 82).
-/// - `Storage`: the device failed or is full, or returned other data when the cause was looked for.
+/// - `Storage`: the device failed or is full.
 /// - `Memory`: an allocation fails.
 pub fn store_over<S: Alter>(
     alloc: Global,
@@ -95,6 +93,9 @@ pub fn store_over<S: Alter>(
         → IsTrue (state S.Store conn).is_open → (IsNotOurs e.1 ⊎ IsDamaged e.1)
         → (state S.Store conn).now.schema ≢ no_schema
         → Stands None (state S.Store conn).now.trees) }
+    ensures storage { IfErr result (λ e. HasCleanDisk (state S.Store e.0)
+        → e.1 ≡ FileFault.Storage
+        → ReportsStorage S.Store (state S.Store conn) (state S.Store e.0)) }
     ensures idle { IfErr result (λ e. e.0.in_transaction ≡ false) }
 {
     let opened = if begins(&conn, wanted) {
@@ -104,6 +105,6 @@ pub fn store_over<S: Alter>(
     };
     match opened {
         Ok(store) => Ok(store),
-        Err((conn, fault)) => Err(with_cause(alloc, conn, fault)),
+        Err((conn, fault)) => Err((conn, FileFault::from(fault))),
     }
 }

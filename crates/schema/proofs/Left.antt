@@ -19,6 +19,8 @@ use Rattle.sql_tables.specs.Finds.{Finds}
 use Rattle.sql_tables.specs.Versions.{numbered_version_at}
 use Rattle.sql_tables.specs.declared.versions.Version.{Version}
 use Rattle.table_reads.specs.Holding.{HoldsRows, HoldsSoundRows, IsOfVersion, number_of}
+use Rattle.examination.specs.declared.damage.Damage.{Damage}
+use Rattle.examination.specs.declared.difference.Difference.{Difference}
 use Rattle.adoption.specs.Adopts.{Adopts}
 use Rattle.adoption.specs.Comes.{Comes}
 use Rattle.adoption.specs.declared.faults.OpenFault.{OpenFault}
@@ -81,13 +83,14 @@ created_at old new live is_open empty opens =
     (no_contents, (nothing_sound, record { db = old.now; is_database = (live is_open).0; stands = refl; has = inr (empty, refl) }), opens)
 
 -- a database that is refused, and isn't empty, has no sound contents
-pub none_at : (old : State) (e : OpenFault) → IsLive old → IsTrue old.is_open → (e ≡ fault.NotOurs → (v : Version) → ¬ IsOfVersion v old.now)
-    → (e ≡ fault.Damaged → (v : Version) → ¬ HoldsSoundRows v old.now) → IsRefusal e → old.now.schema ≢ no_schema → Stands None old.now.trees
-none_at old fault.NotOurs live is_open not_ours damaged is some =
-    λ c sound at. elim (has_there old.now old.now.trees c (live is_open).0 refl at) [ inl h ↦ not_ours refl h.0 (h.1.just, h.1.version) | inr e ↦ some e.0 ]
-none_at old fault.Damaged live is_open not_ours damaged is some =
-    λ c sound at. elim (has_there old.now old.now.trees c (live is_open).0 refl at) [ inl h ↦ damaged refl h.0 (c, sound, h.1) | inr e ↦ some e.0 ]
-none_at old (fault.Store why) live is_open not_ours damaged is some = absurd is
+pub none_at : (old : State) (e : OpenFault) → IsLive old → IsTrue old.is_open → e ≢ fault.NotEmpty → ((d : Difference) → e ≡ fault.NotOurs d → (v : Version) → ¬ IsOfVersion v old.now)
+    → ((d : Damage) → e ≡ fault.Damaged d → (v : Version) → ¬ HoldsSoundRows v old.now) → IsRefusal e → old.now.schema ≢ no_schema → Stands None old.now.trees
+none_at old fault.NotEmpty live is_open existing not_ours damaged is some = absurd (existing refl)
+none_at old (fault.NotOurs d) live is_open existing not_ours damaged is some =
+    λ c sound at. elim (has_there old.now old.now.trees c (live is_open).0 refl at) [ inl h ↦ not_ours d refl h.0 (h.1.just, h.1.version) | inr e ↦ some e.0 ]
+none_at old (fault.Damaged d) live is_open existing not_ours damaged is some =
+    λ c sound at. elim (has_there old.now old.now.trees c (live is_open).0 refl at) [ inl h ↦ damaged d refl h.0 (c, sound, h.1) | inr e ↦ some e.0 ]
+none_at old (fault.Store why) live is_open existing not_ours damaged is some = absurd is
 
 -- ---- after a call that fails
 
@@ -146,10 +149,11 @@ module _ (trees : Trees) (before after : Contents) (either : HasEither trees bef
   pub never_none : ¬ Stands None trees
   never_none none = elim (either None none) [ inl found ↦ found | inr found ↦ found ]
 
-no_refusal : (e : OpenFault) → e ≢ fault.NotOurs → e ≢ fault.Damaged → ¬ IsRefusal e
-no_refusal fault.NotOurs ours whole is = ours refl
-no_refusal fault.Damaged ours whole is = whole refl
-no_refusal (fault.Store why) ours whole is = is
+no_refusal : (e : OpenFault) → e ≢ fault.NotEmpty → ((d : Difference) → e ≢ fault.NotOurs d) → ((d : Damage) → e ≢ fault.Damaged d) → ¬ IsRefusal e
+no_refusal fault.NotEmpty empty ours whole is = empty refl
+no_refusal (fault.NotOurs d) empty ours whole is = ours d refl
+no_refusal (fault.Damaged d) empty ours whole is = whole d refl
+no_refusal (fault.Store why) empty ours whole is = is
 
 -- the results of `create` and `adopt` for such a database
 module _ {X Y : Type 0} (opened : State) where
@@ -161,10 +165,10 @@ module _ {X Y : Type 0} (opened : State) where
   abbrev NeverRefused : (Y × OpenFault → Type 0) → Result X (Y × OpenFault) → Type 0
   NeverRefused Clean q = IfErr q (λ e. Clean e → IsTrue opened.is_open → (before after : Contents) → HasEither opened.now.trees before after → ¬ IsRefusal e.1)
 
-  pub created_over : (Clean : Y × OpenFault → Type 0) (r : Result X (Y × OpenFault)) → opened.now.schema ≡ no_schema → IfErr r (λ e. e.1 ≡ fault.NotOurs → opened.now.schema ≢ no_schema)
-      → IfErr r (λ e. e.1 ≢ fault.Damaged) → NeverRefused Clean r
-  created_over Clean (Ok x) empty full whole = tt
-  created_over Clean (Err e) empty full whole = λ clean is_open before after either. no_refusal e.1 (λ same. full same empty) whole
+  pub created_over : (Clean : Y × OpenFault → Type 0) (r : Result X (Y × OpenFault)) → opened.now.schema ≡ no_schema → IfErr r (λ e. e.1 ≡ fault.NotEmpty → opened.now.schema ≢ no_schema)
+      → IfErr r (λ e. (d : Difference) → e.1 ≢ fault.NotOurs d) → IfErr r (λ e. (d : Damage) → e.1 ≢ fault.Damaged d) → NeverRefused Clean r
+  created_over Clean (Ok x) empty full ours whole = tt
+  created_over Clean (Err e) empty full ours whole = λ clean is_open before after either. no_refusal e.1 (λ same. full same empty) ours whole
 
   pub adopted_over : (Clean : Y × OpenFault → Type 0) (r : Result X (Y × OpenFault)) → opened.now.schema ≢ no_schema
       → IfErr r (λ e. Clean e → IsTrue opened.is_open → IsRefusal e.1 → opened.now.schema ≢ no_schema → Stands None opened.now.trees) → NeverRefused Clean r

@@ -10,8 +10,9 @@ use Rattle.schema.specs.Link.{Stands}
 
 -- The fault is refusal 81 or 82.
 abbrev pub IsRefusal : OpenFault → Type 0
-IsRefusal fault.NotOurs = Unit {0}
-IsRefusal fault.Damaged = Unit {0}
+IsRefusal fault.NotEmpty = Unit {0}
+IsRefusal (fault.NotOurs difference) = Unit {0}
+IsRefusal (fault.Damaged damage) = Unit {0}
 IsRefusal (fault.Store why) = ⊥
 
 -- The store is opened with contents that an open finds at `trees`.

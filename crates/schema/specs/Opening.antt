@@ -12,6 +12,9 @@ use Rattle.sql_base.specs.Columns.{no_schema}
 use Rattle.sql_base.specs.Ends.{IsKept, IsLeft}
 use Rattle.sql_tables.specs.declared.versions.Version.{Version}
 use Rattle.table_reads.specs.Holding.{HoldsRows, HoldsSoundRows, IsOfVersion}
+use Rattle.examination.specs.Causes.{SaysHow, SaysWhat}
+use Rattle.examination.specs.declared.damage.Damage.{Damage}
+use Rattle.examination.specs.declared.difference.Difference.{Difference}
 use Rattle.adoption.specs.Adopts.{Adopts}
 use Rattle.adoption.specs.Causes.{IsCaused}
 use Rattle.adoption.specs.Unwritten.{LeavesOurs}
@@ -42,11 +45,14 @@ pub record OpensExisting {S : Type 0} (g : Ghosts S) (old : Held S) (result : Re
   pub takes : IfOk result (λ store. HasCleanDisk (state g (connection store)) → TakesAt (state g old).now.trees (stands_for g store))
   -- ---- the faults
 
-  -- The tables match no version (refusal 81).
-  pub not_ours : IfErr result (λ e. HasCleanDisk (state g e.0) → e.1 ≡ fault.NotOurs → (v : Version) → ¬ IsOfVersion v (state g old).now)
-  -- The tables match a version, but no sound contents have these rows (refusal 82).
-  pub damaged : IfErr result (λ e. HasCleanDisk (state g e.0) → e.1 ≡ fault.Damaged
-      → ((v : Version) × IsOfVersion v (state g old).now) × ((v : Version) → ¬ HoldsSoundRows v (state g old).now))
+  -- The tables match no version (refusal 81), and differ as the fault states.
+  pub not_ours : IfErr result (λ e. HasCleanDisk (state g e.0) → (difference : Difference) → e.1 ≡ fault.NotOurs difference
+      → ((v : Version) → ¬ IsOfVersion v (state g old).now) × SaysHow (state g old).now difference)
+  -- The tables match a version, but no sound contents have these rows (refusal 82), as the fault states.
+  pub damaged : IfErr result (λ e. HasCleanDisk (state g e.0) → (damage : Damage) → e.1 ≡ fault.Damaged damage
+      → ((v : Version) × IsOfVersion v (state g old).now) × ((v : Version) → ¬ HoldsSoundRows v (state g old).now) × SaysWhat (state g old).now damage)
+  -- The database needn't be empty.
+  pub existing : IfErr result (λ e. e.1 ≢ fault.NotEmpty)
   -- An open of a refused database finds no contents in it.
   pub refuses : IfErr result (λ e. HasCleanDisk (state g e.0) → IsTrue (state g old).is_open → IsRefusal e.1 → (state g old).now.schema ≢ no_schema → Stands None (state g old).now.trees)
   -- A fault of the store has a cause.

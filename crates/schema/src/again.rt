@@ -19,7 +19,7 @@ impl<S: Alter + Drop> Reopen for SqlStore<S> {
         match SqlStore::adopt(alloc, self.close()) {
             Ok(store) => Ok(store),
             Err((_, OpenFault::Store { fault })) => Err(fault),
-            Err((_, OpenFault::NotOurs | OpenFault::Damaged)) => Err(StoreFault::Device),
+            Err(_) => Err(StoreFault::Device),
         }
     }
 }

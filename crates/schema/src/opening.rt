@@ -8,6 +8,8 @@ ghost use Rattle.job_facts.specs.Store.{IsFound};
 ghost use Rattle.job_facts.specs.declared.store.StoreFault.{StoreFault};
 ghost use Rattle.sql_base.specs.Columns.{no_schema};
 ghost use Rattle.sql_base.specs.Ends.{IsKept};
+ghost use Rattle.examination.specs.declared.damage.Damage.{Damage};
+ghost use Rattle.examination.specs.declared.difference.Difference.{Difference};
 ghost use Rattle.adoption.specs.Causes.{IsCaused};
 ghost use Rattle.schema.specs.Begun.{LeavesNoOther};
 ghost use Rattle.schema.specs.Left.{TakesAt};
@@ -32,7 +34,7 @@ impl<S: Alter> SqlStore<S> {
     ///
     /// Returns the connection with one of these faults. The database is unchanged.
     ///
-    /// - `NotOurs`: the database isn't empty.
+    /// - `NotEmpty`: the database isn't empty (refusal 81).
     /// - `Store`: the device failed or is full, or an allocation fails.
     pub fn create(
         alloc: Global,
@@ -47,9 +49,11 @@ impl<S: Alter> SqlStore<S> {
             × ((stands_for S.Store store).full ≡ 0)) }
         ensures crash { IfOk result (λ store. HasCleanDisk (state S.Store (connection store))
             → (d : _) → (stands_for S.Store store).may_leave d → IsFound d no_contents) }
-        ensures refused { IfErr result (λ e. e.1 ≡ OpenFault.NotOurs
+        ensures refused { IfErr result (λ e. e.1 ≡ OpenFault.NotEmpty
             → (state S.Store conn).now.schema ≢ no_schema) }
-        ensures unread { IfErr result (λ e. e.1 ≢ OpenFault.Damaged) }
+        ensures no_difference { IfErr result
+            (λ e. (difference : Difference) → e.1 ≢ OpenFault.NotOurs difference) }
+        ensures unread { IfErr result (λ e. (damage : Damage) → e.1 ≢ OpenFault.Damaged damage) }
         ensures kept { IfErr result (λ e. HasCleanDisk (state S.Store e.0)
             → IsTrue (state S.Store conn).is_open
             → IsKept (state S.Store conn) (state S.Store e.0)) }
@@ -79,7 +83,7 @@ impl<S: Alter> SqlStore<S> {
         laws::is_committed(&conn);
         laws::is_live(&conn);
         if !is_empty(conn.schema()) {
-            return Err((conn, OpenFault::NotOurs));
+            return Err((conn, OpenFault::NotEmpty));
         }
         match make_tables(&mut conn) {
             Ok(()) => {
@@ -104,8 +108,10 @@ impl<S: Alter> SqlStore<S> {
     ///
     /// Returns the connection with one of these faults. The database is unchanged.
     ///
-    /// - `NotOurs`: the tables don't have the form of any schema version (refusal 81).
-    /// - `Damaged`: the rows don't represent sound contents (refusal 82).
+    /// - `NotOurs`: the tables don't have the form of any schema version (refusal 81). It has the
+    ///   first difference from the nearest version.
+    /// - `Damaged`: the rows don't represent sound contents (refusal 82). It has the first audit
+    ///   rule that they break, or says that a row can't be read.
     /// - `Store`: the device failed or is full, or an allocation fails.
     ///
     /// No clause excludes that a full disk is reported as `Device` (docs/DECISIONS.md, "Full

@@ -7,7 +7,7 @@ use arguments::WordsFault;
 use book_answers::print_from_file;
 use book_arguments::{Ask, BookWords, read_book_words};
 use event_lines::{EventLog, Level};
-use file_causes::Damage;
+use examination::Damage;
 use over_tables::FileFault;
 use sqlite_disk::Unknown;
 use std::io::IsTerminal;

@@ -9,7 +9,7 @@ use Rattle.event_lines.specs.Levels.{level_of}
 use Rattle.event_lines.specs.declared.level.Level.{Level}
 use Rattle.event_lines.specs.declared.level.Level.TheVariants.{Off, Usual}
 use Rattle.event_lines.specs.Lines.{number_pair, pair, quoted_pair}
-use Rattle.file_causes.specs.Words.{damage_word}
+use Rattle.examination.specs.Words.{damage_word}
 use Rattle.job_facts.specs.declared.store.StoreFault.{StoreFault}
 use Rattle.over_tables.specs.Causes.{commits_in, name_in, word_of}
 use Rattle.over_tables.specs.declared.cause.Cause.{Cause}

@@ -271,7 +271,7 @@ fn book_text<S: Alter>(alloc: Global, conn: &mut Connection<S>) -> Result<Vec<u8
     let fault = match read_book(alloc, conn) {
         Ok(book) => match book.failing {
             Some(rule) => FileFault::Damaged {
-                cause: file_causes::Damage::Broken { rule },
+                cause: examination::Damage::Broken { rule },
             },
             None => return Ok(Vec::new(alloc)),
         },

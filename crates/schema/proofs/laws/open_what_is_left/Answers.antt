@@ -2,7 +2,7 @@ use Rattle.std.proofs.Common.{◌∙◌, sym}
 use Rattle.sqlite.specs.Held.{state}
 use Rattle.sqlite.specs.State.{HasCleanDisk}
 use Rattle.schema.specs.Stores.{connection, stands_for}
-use Rattle.schema.proofs.Left.{adopted_over, adopted_still, created_still, taken_over}
+use Rattle.schema.proofs.Left.{adopted_over, adopted_still, created_over, created_still, taken_over}
 use Rattle.schema.proofs.laws.open_what_is_left.Goals as goal
 
 pub returns-then-is_empty-clause-either : goal.returns-then-is_empty-clause-either
@@ -12,6 +12,11 @@ returns-then-is_empty-clause-either g c =
 pub returns-else-is_empty-clause-either : goal.returns-else-is_empty-clause-either
 returns-else-is_empty-clause-either g c =
     taken_over (state g.S.Store c.args.conn) (λ store. HasCleanDisk (state g.S.Store (connection store))) (stands_for g.S.Store) c.adopt.result c.adopt.ensures.takes
+
+pub returns-then-is_empty-clause-never_refused : goal.returns-then-is_empty-clause-never_refused
+returns-then-is_empty-clause-never_refused g c =
+    created_over (state g.S.Store c.args.conn) (λ e. HasCleanDisk (state g.S.Store e.0)) c.create.result (sym c.schema.ensures.value ∙ c.is_empty.ensures.0 c.if-is_empty.true)
+    c.create.ensures.refused c.create.ensures.no_difference c.create.ensures.unread
 
 pub returns-else-is_empty-clause-never_refused : goal.returns-else-is_empty-clause-never_refused
 returns-else-is_empty-clause-never_refused g c =

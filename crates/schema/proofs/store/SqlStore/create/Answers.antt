@@ -49,3 +49,9 @@ returns-in-Err-clause-leaves g c clean is_open empty d left =
 pub returns-in-Err-clause-cause : goal.returns-in-Err-clause-cause
 returns-in-Err-clause-cause g c clean own reported =
     caused g.S.Store (state g.S.Store c.args.conn) (state g.S.Store c.make_tables.new.conn) c.in-Err.error c.from.result own c.from.ensures reported (c.in-Err.ensures.cause clean)
+
+pub returns-in-Err-clause-no_difference : goal.returns-in-Err-clause-no_difference
+returns-in-Err-clause-no_difference g c d is = absurd (cc (c.from.ensures, is))
+
+pub returns-in-Err-clause-unread : goal.returns-in-Err-clause-unread
+returns-in-Err-clause-unread g c d is = absurd (cc (c.from.ensures, is))

@@ -1,0 +1,5 @@
+pub mod Causes
+pub mod Differences
+pub mod Findings
+pub mod Standings
+pub mod Words

@@ -1,4 +1,0 @@
-pub mod Causes
-pub mod Differences
-pub mod Standings
-pub mod Words
