@@ -12,6 +12,7 @@ use Rattle.audit_rows.specs.declared.rule.Rule.{Rule}
 use Rattle.audit_rows.proofs.SoundLemmas.{same_back, same_through}
 use Rattle.sql_base.specs.Ends.{IsKept}
 use Rattle.sql_tables.specs.Tables.{our_schema}
+use Rattle.sql_tables.specs.declared.versions.VersionMatch.{VersionMatch}
 use Rattle.table_reads.specs.Reading.{HasForAudit, HoldsNoneOf, IsForAudit, Reads}
 use Rattle.table_reads.specs.Rowids.{StandAsMade}
 use Rattle.table_reads.specs.declared.tables.HeldRows.{HeldRows}
@@ -21,7 +22,6 @@ use Rattle.examination.specs.declared.finding.Finding.{Finding}
 use Rattle.examination.specs.declared.finding.Finding.TheVariants.{NotOurs, Read, Unreadable}
 use Rattle.examination.specs.declared.finding.Standing.{Standing}
 use Rattle.examination.specs.declared.finding.Standing.TheVariants.{Ours}
-use Rattle.examination.specs.declared.matching.VersionMatch.{VersionMatch}
 use Rattle.examination.proofs.WholeRows.{read_from}
 
 -- ---- the audit

@@ -8,6 +8,7 @@ use Rattle.audit_order.specs.Order.{AreSorted}
 use Rattle.audit_rows.specs.Rules.{FailsFirst, rules}
 use Rattle.audit_rows.specs.declared.rule.Rule.{Rule}
 use Rattle.sql_tables.specs.declared.versions.Version.{Version}
+use Rattle.sql_tables.specs.declared.versions.VersionMatch.{VersionMatch}
 use Rattle.table_reads.specs.Holding.{HoldsRows, IsOfVersion}
 use Rattle.table_reads.specs.Reading.{HoldsNoneOf}
 use Rattle.table_reads.specs.Rowids.{StandAsMade}
@@ -17,7 +18,6 @@ use Rattle.examination.specs.Causes.{IsNotOurs, SaysHow}
 use Rattle.examination.specs.declared.finding.ExaminedRows.{ExaminedRows}
 use Rattle.examination.specs.declared.finding.Finding.{Finding}
 use Rattle.examination.specs.declared.finding.Finding.TheVariants.{NotOurs, Read, Unreadable}
-use Rattle.examination.specs.declared.matching.VersionMatch.{VersionMatch}
 
 -- The rows are the rows of sound contents.
 abbrev pub AreOfSoundContents : Tables → Type 0

@@ -11,10 +11,9 @@ ghost use Rattle.examination.specs.Findings.{IsFinding, IsWhole, Judges};
 ghost use Rattle.examination.specs.Standings.{Stands};
 
 use crate::difference::Difference;
-use crate::matching::{VersionMatch, matched_version};
 use crate::schemas::{nearest, schema_difference};
 use audit_rows::{Rule, first_failing};
-use sql_tables::{Version, tables_of};
+use sql_tables::{Version, VersionMatch, tables_of, version_in};
 use sqlite::{Alter, Connection, Error};
 use std::alloc::Global;
 use table_reads::{HeldRows, read_for_audit, says};
@@ -50,7 +49,7 @@ fn standing_of<S: Alter>(alloc: Global, conn: &mut Connection<S>) -> Result<Stan
         → IfOk result (Stands (state S.Store conn.old).now) }
     ensures looks { LooksWithCause S.Store conn.old conn.new result }
 {
-    let Some(found) = matched_version(alloc, conn)? else {
+    let Some(found) = version_in(alloc, conn)? else {
         let difference = nearest_difference(alloc, conn)?;
         return Ok(Standing::NotOurs { difference });
     };

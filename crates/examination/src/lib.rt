@@ -5,7 +5,6 @@
 mod damage;
 mod difference;
 mod finding;
-mod matching;
 mod schemas;
 
 pub use damage::Damage;

@@ -1,5 +1,6 @@
 //! Opens the store over a database.
 ghost use Rattle.std.specs.Prelude.{◌≡◌, ◌≢◌, ◌⊎◌, ◌↔◌, false, IfErr, IfOk, IsTrue, None};
+ghost use Rattle.std.specs.Prelude.{option_map};
 ghost use Rattle.sqlite.specs.Held.{state};
 ghost use Rattle.sqlite.specs.State.{HasCleanDisk};
 ghost use Rattle.sql_base.specs.Columns.{no_schema};
@@ -12,7 +13,7 @@ ghost use Rattle.over_tables.specs.Refusals.{IsDamaged, IsNotOurs, IsRefused, Re
 use crate::fault::FileFault;
 use schema::SqlStore;
 use sql_base::is_empty;
-use sql_tables::{Version, version_in};
+use sql_tables::{Version, VersionMatch, version_in};
 use sqlite::{Alter, Connection};
 use std::alloc::Global;
 
@@ -43,8 +44,17 @@ pub fn older_version<S: Alter>(alloc: Global, conn: &Connection<S>) -> Option<u8
     ensures { IsOlder (state S.Store conn.now).now result }
 {
     match version_in(alloc, conn) {
-        Ok(found) => older_number(found),
+        Ok(found) => older_number(version_of(found)),
         Err(_) => None,
+    }
+}
+
+fn version_of(found: Option<VersionMatch>) -> Option<Version>
+    ensures { result ≡ option_map (λ m. m.version) found }
+{
+    match found {
+        Some(found) => Some(found.version),
+        None => None,
     }
 }
 

@@ -13,6 +13,6 @@ mod versions;
 
 pub use alike::has_just;
 pub use each::{Runs, run_both, run_each};
-pub use opening::{has_our_tables, make_all, make_tables};
+pub use opening::{make_all, make_tables};
 pub use parts::are_same_but_tree;
-pub use versions::{Version, tables_of, version_in};
+pub use versions::{Version, VersionMatch, tables_of, version_in};

@@ -100,7 +100,7 @@ pub(crate) fn make_in_memory(conn: &mut Connection<MemStore>, version: Version) 
 
 /// Returns `true` if the database has exactly the tables and indexes that `make_tables` creates,
 /// and nothing else.
-pub fn has_our_tables<S: Alter>(conn: &Connection<S>, ours: &Schema) -> bool
+pub(crate) fn has_our_tables<S: Alter>(conn: &Connection<S>, ours: &Schema) -> bool
     requires { ours.now ≡ our_schema }
     ensures { IsTrue result ↔ ((state S.Store conn.now).now.schema ≡ our_schema) }
 {

@@ -23,7 +23,7 @@ use Rattle.sql_rows.specs.Encoding.{batch_row, blank_row, grouping_row, lot_row,
 use Rattle.sql_rows.specs.Decoding.{reply_of}
 use Rattle.sql_rows.specs.Image.{given_rows}
 use Rattle.sql_rows.proofs.OneImage.{same_typed}
-use Rattle.table_reads.specs.Reading.{Has, HasForAudit, HasGroupings, HasMarks, HasMost, HasRows, HasWhole, HoldsNoneOf, MarksAre, held_of, most_tables}
+use Rattle.table_reads.specs.Reading.{Has, HasForAudit, HasGroupings, HasMarks, HasMost, HasWhole, HoldsNoneOf, MarksAre, held_of, most_tables}
 use Rattle.table_reads.specs.Replies.{StandWithoutBytes}
 use Rattle.table_reads.specs.Shown.{IsAny}
 use Rattle.table_reads.specs.Unread.{without_reply_bytes}
@@ -61,7 +61,12 @@ module _ (v : Version) (db : Database) (held : HeldRows) (most : HasMost v db he
     marks = marks;
   }
 
-pub rows_held : (v : Version) (db : Database) (held : HeldRows) → HasMost v db held → (replies : List Entry) → Holds reply_at false (map reply_row replies) db → HasRows v db (record held.tables { replies = replies })
+-- If the tables are the tables of `v`, and the row of `version` has its number, the database holds
+-- the rows `t`.
+abbrev HasRows : Version → Database → Tables → Type 0
+HasRows v db t = HasJust db.schema (schema_of v) → AreThere db.schema (schema_of v).tables → SaysVersion v db → HoldsRows v t db
+
+rows_held : (v : Version) (db : Database) (held : HeldRows) → HasMost v db held → (replies : List Entry) → Holds reply_at false (map reply_row replies) db → HasRows v db (record held.tables { replies = replies })
 rows_held One db held most replies of_replies just there says =
     rows_numbered One db held most replies of_replies just says there.0 there.1.0 there.1.1.0 there.1.1.1.0 there.1.1.1.1.0 there.1.1.1.1.1.0 there.1.1.1.1.1.1.0 there.1.1.1.1.1.1.1.0
     (at unmixed_grouping_at false _ db there.1.1.1.1.1.1.1.1.1.0.number there.1.1.1.1.1.1.1.1.1.0.finds most.groupings) most.marks
@@ -81,10 +86,6 @@ replies_there : (v : Version) (db : Database) → AreThere db.schema (schema_of 
 replies_there One db there = let it = there.1.1.1.1.1.1.1.1.0 in record { number = it.number; finds = it.finds }
 replies_there Two db there = let it = there.1.1.1.1.1.1.1.1.0 in record { number = it.number; finds = it.finds }
 replies_there Three db there = let it = there.1.1.1.1.1.1.1.1.1.1.0 in record { number = it.number; finds = it.finds }
-
--- all rows, with the replies
-pub all_held : (v : Version) (db : Database) (held : HeldRows) → HasMost v db held → (replies : List Entry) → Has reply_at false (map reply_row replies) db → HasRows v db (record held.tables { replies = replies })
-all_held v db held most replies has just there says = let it = replies_there v db there in rows_held v db held most replies (at reply_at false _ db it.number it.finds has) just there says
 
 -- ---- rowids
 

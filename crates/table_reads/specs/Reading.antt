@@ -119,11 +119,6 @@ pub record HasMost (v : Version) (db : Database) (held : HeldRows) : Type 0 wher
 
 -- ---- all tables
 
--- If the tables are the tables of `v`, and the row of `version` has its number, the database holds
--- the rows `t`.
-abbrev pub HasRows : Version → Database → Tables → Type 0
-HasRows v db t = HasJust db.schema (schema_of v) → AreThere db.schema (schema_of v).tables → SaysVersion v db → HoldsRows v t db
-
 -- The rows for the audit: all rows, without the bytes of replies. `apart` tells whether all rowids
 -- in each table are different.
 pub record IsForAudit (v : Version) (db : Database) (held : HeldRows) : Type 0 where

@@ -18,5 +18,5 @@ mod version;
 pub use reads::{TableRows, whole};
 pub use replies::with_reply_bytes;
 pub use stored::Stored;
-pub use tables::{HeldRows, read_all, read_for_audit};
+pub use tables::{HeldRows, read_for_audit};
 pub use version::says;

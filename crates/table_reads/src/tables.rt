@@ -4,7 +4,7 @@ ghost use Rattle.sqlite.specs.Held.{state};
 ghost use Rattle.sqlite.specs.State.{HasCleanDisk};
 ghost use Rattle.sql_base.specs.Unchanged.{LooksWithCause};
 ghost use Rattle.table_reads.specs.Reading.{HasForAudit, HasGroupings, HasMarks, HasMost};
-ghost use Rattle.table_reads.specs.Reading.{HasRows, HoldsNoneOf, Reads, held_of};
+ghost use Rattle.table_reads.specs.Reading.{HoldsNoneOf, Reads, held_of};
 
 use crate::reads::{TableRows, whole};
 use crate::replies::brief_replies;
@@ -172,30 +172,4 @@ pub fn read_for_audit<S: Alter>(
     };
     held.tables.replies = rows_beside(replies, &mut held.apart);
     Ok(Some(held))
-}
-
-/// Reads the rows of all tables of `version` except the table `version`, in any order.
-///
-/// Returns `None` if a row doesn't have the shape of its table, so that the database can't hold
-/// sound contents. The database isn't changed, even by a crash.
-pub fn read_all<S: Alter>(
-    alloc: Global,
-    conn: &mut Connection<S>,
-    version: Version,
-) -> Result<Option<Tables>, Error>
-    requires { conn.old.in_transaction ≡ false }
-    ensures value { HasCleanDisk (state S.Store conn.new) → IfOk result
-        (Reads (HoldsNoneOf version) (HasRows version)
-        (state S.Store conn.old)) }
-    ensures looks { LooksWithCause S.Store conn.old conn.new result }
-{
-    let Some(held) = read_most(alloc, conn, version)? else {
-        return Ok(None);
-    };
-    let Some(replies) = whole(alloc, conn, "SELECT rowid, * FROM reply")? else {
-        return Ok(None);
-    };
-    let mut tables = held.tables;
-    tables.replies = replies.rows;
-    Ok(Some(tables))
 }
