@@ -1,6 +1,6 @@
 -- Event lines that are written one after another.
 use Rattle.std.proofs.Common.{◌≡◌, ◌≢◌, ◌<◌, ◌+◌, ◌==◌, true, false, ℕ, Bool, Bor, List, [], ◌∷◌, ◌++◌, length, map, take, drop, get_or, append_assoc, min, Option, Some, None, Result, IfOk, refl, sym, ap, subst, ◌∙◌, append-nil, arith, inl, inr, ◌≤◌}
-use Rattle.std.specs.Prelude.{◌↔◌, IsTrue, nat_lt, option_map, position, unwrap_or}
+use Rattle.std.specs.Prelude.{◌↔◌, IsTrue, if◌then◌else◌, nat_lt, option_map, position, unwrap_or}
 use Rattle.std.specs.List.{before_first, position_or_len}
 use Rattle.std.proofs.lemmas.Bool.{cases_lt, cond_both, ltb-false, ne_eqb}
 use Rattle.std.proofs.lemmas.Option.{same_Some}
