@@ -5,6 +5,7 @@ use crate::refused::tables;
 use crate::stops::adopted;
 use crate::stories::{MADE_AGAIN, SET_UP};
 use crate::versions::{all_rows, send_all};
+use audit_rows::is_sound;
 use book_file::read_book;
 use over_tables::{FileFault, Wanted, store_over};
 use schema::SqlStore;
@@ -263,18 +264,23 @@ fn text_of(alloc: Global, fault: &FileFault) -> Result<Vec<u8>, AllocError> {
 }
 
 // Returns the reason why `shopbook` refuses a database or finds it damaged, in the form of
-// `text_of`. The result is empty if there is no damage.
+// `text_of`. The result is empty if there is no damage. `is_sound` must agree.
 fn book_text<S: Alter>(alloc: Global, conn: &mut Connection<S>) -> Result<Vec<u8>, Fail> {
     if !conn.is_autocommit() {
         return Err(Fail::new("a transaction is open"));
     }
     let fault = match read_book(alloc, conn) {
-        Ok(book) => match book.failing {
-            Some(rule) => FileFault::Damaged {
-                cause: examination::Damage::Broken { rule },
-            },
-            None => return Ok(Vec::new(alloc)),
-        },
+        Ok(book) => {
+            if is_sound(alloc, &book.tables)? != book.failing.is_none() {
+                return Err(Fail::new("`is_sound` and the audit differ"));
+            }
+            match book.failing {
+                Some(rule) => FileFault::Damaged {
+                    cause: examination::Damage::Broken { rule },
+                },
+                None => return Ok(Vec::new(alloc)),
+            }
+        }
         Err(fault) => fault,
     };
     Ok(text_of(alloc, &fault)?)
@@ -323,7 +329,8 @@ fn check_all(rt: &impl Abort, alloc: Global, damages: &[Damage]) -> Result<(), F
 
 #[test]
 fn a_database_without_damage_is_taken(rt: HostRuntime) -> Result<(), Fail> {
-    let conn = sound(&rt, rt.alloc(), tables(rt.alloc())?)?;
+    let mut conn = sound(&rt, rt.alloc(), tables(rt.alloc())?)?;
+    assert_eq!(rt; book_text(rt.alloc(), &mut conn)?.is_empty(), true);
     adopted(rt.alloc(), conn)?;
     Ok(())
 }
