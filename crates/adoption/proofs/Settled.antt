@@ -20,7 +20,7 @@ use Rattle.table_reads.proofs.After.{kept_then}
 use Rattle.remaking.specs.Remakes.{Remakes}
 use Rattle.examination.specs.declared.finding.ExaminedRows.{ExaminedRows}
 use Rattle.adoption.specs.Adopts.{Settles}
-use Rattle.adoption.specs.Comes.{Comes}
+use Rattle.adoption.specs.EndsCommitted.{EndsCommitted}
 use Rattle.adoption.specs.Reading.{IsReading}
 
 -- A crash after the call leaves nothing that it could not leave before. Before the call, it left
@@ -43,7 +43,7 @@ ImageLaw = (v : Version) (t : Tables) (db : Database) → HoldsRows v t db → I
 module _ {S : Type 0} (g : Ghosts S) (law : (s : S) (db : Trees) → IsTrue (g.view s).is_open → g.recovers s db → db ≡ (g.view s).committed) (old new : Held S) (read : ExaminedRows)
     (image : ImageLaw) (settled : IsTrue (state g old).is_open → (state g old).now ≡ (state g old).committed) (live : IsLive (state g old)) (clean : HasCleanDisk (state g new))
     (as_made : IsTrue read.as_made) (kept : IsKept (state g old) (state g new)) (survives : Survives (state g old) (state g new) (λ _. ⊥)) where
-  pub stays : {E : Type 0} (r : Result (Unit {0}) E) → OnOk r (IsTrue (state g new).is_open) → OnOk r (Comes (Settles read) (state g old) (state g new))
+  pub stays : {E : Type 0} (r : Result (Unit {0}) E) → OnOk r (IsTrue (state g new).is_open) → OnOk r (EndsCommitted (Settles read) (state g old) (state g new))
   stays (Err e) shown = tt
   stays (Ok u) shown =
       let was_open = kept.was_open shown in
@@ -88,7 +88,7 @@ module _ (read : ExaminedRows) (all : Tables) (old mid new : State) (kept : HasC
       let stands : IsImage all db = made (subst (λ (d : Database). IsDatabase d) same (live (k.was_open shown)).0) (subst (λ (d : Database). HoldsRows read.version t d) same is.rows).just in
       same_rows t all db (same_back all t (whole clean t is)) stands
 
-  pub remade : {E : Type 0} (r : Result (Unit {0}) E) → HasCleanDisk mid → OnOk r (Ends (Remakes read.version all) mid new) → OnOk r (Comes (Settles read) old new)
+  pub remade : {E : Type 0} (r : Result (Unit {0}) E) → HasCleanDisk mid → OnOk r (Ends (Remakes read.version all) mid new) → OnOk r (EndsCommitted (Settles read) old new)
   remade (Err e) clean ends = tt
   remade (Ok u) clean ends = record {
     db = new.now;

@@ -12,7 +12,7 @@ use Rattle.audit_rows.proofs.SoundLemmas.{same_back}
 use Rattle.table_reads.specs.Holding.{HoldsRows}
 use Rattle.examination.specs.declared.finding.ExaminedRows.{ExaminedRows}
 use Rattle.adoption.specs.Adopts.{Adopts, Settles}
-use Rattle.adoption.specs.Comes.{Comes}
+use Rattle.adoption.specs.EndsCommitted.{EndsCommitted}
 use Rattle.adoption.specs.Reading.{HoldsAsRead, IsReading}
 use Rattle.adoption.specs.Unwritten.{LeavesOurs}
 
@@ -38,7 +38,7 @@ module _ (law : OrderLaw) (read : ExaminedRows) (old mid new : State) (kept : Ha
   turned : HasCleanDisk mid → IsTrue mid.is_open → (db : Database) → Settles read mid.now db → Adopts old.now db
   turned clean shown db settles = adopted law read old.now db (found clean) (subst (λ (d : Database). Settles read d db) ((kept clean).now_is shown) settles)
 
-  pub taken : HasCleanDisk mid → Comes (Settles read) mid new → Comes Adopts old new
+  pub taken : HasCleanDisk mid → EndsCommitted (Settles read) mid new → EndsCommitted Adopts old new
   taken clean comes = record {
     db = comes.db;
     made = turned clean comes.was_open comes.db comes.made;

@@ -1,5 +1,5 @@
 pub mod Reading
-pub mod Comes
+pub mod EndsCommitted
 pub mod Adopts
 pub mod Faults
 pub mod Taken

@@ -11,7 +11,7 @@ ghost use Rattle.examination.specs.declared.damage.Damage.{Damage as OfDamage};
 ghost use Rattle.examination.specs.declared.difference.Difference.{Difference};
 ghost use Rattle.adoption.specs.Adopts.{Adopts};
 ghost use Rattle.adoption.specs.Causes.{IsCaused};
-ghost use Rattle.adoption.specs.Comes.{Comes};
+ghost use Rattle.adoption.specs.EndsCommitted.{EndsCommitted};
 ghost use Rattle.adoption.specs.Taken.{rows_taken};
 ghost use Rattle.adoption.specs.Unwritten.{LeavesOurs};
 
@@ -60,7 +60,7 @@ fn rows_taken(examined: Result<Finding, Error>) -> Result<ExaminedRows, OpenFaul
 pub fn adopt<S: Alter>(alloc: Global, conn: &mut Connection<S>) -> Result<(), OpenFault>
     requires { conn.old.in_transaction ≡ false }
     ensures ok { HasCleanDisk (state S.Store conn.new) → OnOk result
-        (Comes Adopts (state S.Store conn.old) (state S.Store conn.new)) }
+        (EndsCommitted Adopts (state S.Store conn.old) (state S.Store conn.new)) }
     ensures not_ours { HasCleanDisk (state S.Store conn.new) → IfErr result
         (λ e. (difference : Difference) → e ≡ OpenFault.NotOurs difference
         → ((v : Version) → ¬ IsOfVersion v (state S.Store conn.old).now)

@@ -7,7 +7,7 @@ ghost use Rattle.sql_base.specs.Ends.{IsKept, IsLeft};
 ghost use Rattle.sql_base.specs.Unchanged.{LooksWithCause};
 ghost use Rattle.table_rows.specs.Tables.{Tables};
 ghost use Rattle.adoption.specs.Adopts.{Settles};
-ghost use Rattle.adoption.specs.Comes.{Comes};
+ghost use Rattle.adoption.specs.EndsCommitted.{EndsCommitted};
 ghost use Rattle.adoption.specs.Reading.{IsReading};
 ghost use Rattle.adoption.specs.Unwritten.{LeavesOurs};
 
@@ -37,7 +37,7 @@ fn stay_open<S: Alter>(conn: &mut Connection<S>) -> Result<(), Error>
 fn rebuild<S: Alter>(conn: &mut Connection<S>, rows: ExaminedRows) -> Result<(), Error>
     requires idle { conn.old.in_transaction ≡ false }
     ensures ok { HasCleanDisk (state S.Store conn.new) → OnOk result
-        (Comes (Settles rows) (state S.Store conn.old) (state S.Store conn.new)) }
+        (EndsCommitted (Settles rows) (state S.Store conn.old) (state S.Store conn.new)) }
     ensures kept { HasCleanDisk (state S.Store conn.new)
         → OnErr result (IsKept (state S.Store conn.old) (state S.Store conn.new)) }
     ensures idle { conn.new.in_transaction ≡ false }
@@ -60,7 +60,7 @@ fn rebuild<S: Alter>(conn: &mut Connection<S>, rows: ExaminedRows) -> Result<(),
 pub(crate) fn settle<S: Alter>(conn: &mut Connection<S>, rows: ExaminedRows) -> Result<(), Error>
     requires idle { conn.old.in_transaction ≡ false }
     ensures ok { HasCleanDisk (state S.Store conn.new) → OnOk result
-        (Comes (Settles rows) (state S.Store conn.old) (state S.Store conn.new)) }
+        (EndsCommitted (Settles rows) (state S.Store conn.old) (state S.Store conn.new)) }
     ensures kept { HasCleanDisk (state S.Store conn.new)
         → OnErr result (IsKept (state S.Store conn.old) (state S.Store conn.new)) }
     ensures unchanged { (t : Tables) → IsReading t (state S.Store conn.old).now rows

@@ -30,7 +30,7 @@ use Rattle.table_rows.specs.Keys.{is_batch, is_grouping_of, is_record_at, is_rec
 use Rattle.row_laws.proofs.Finding.{find-filter}
 use Rattle.row_laws.proofs.TotalRows.{sum_by-map}
 use Rattle.audit_laws.specs.Audited.{IsAuditedBatch, IsAuditedRecord, IsAuditedSession, file_groupings, file_keys, file_records, file_rows, is_session_at, is_session_of, key_of, record_states_of, session_states_of}
-use Rattle.audit_cards.specs.Files.{CountsBy, HasFile, IsFileOf, IsUnread, groupings_in, keys_of, names_in, records_so, sessions_so}
+use Rattle.audit_cards.specs.Files.{CountsBy, HasFile, IsFileOf, IsUnread, groupings_in, keys_of, names_in, records_in_state, sessions_in_state}
 use Rattle.audit_cards.specs.Sessions.{AreByRecord, HasRows, IsAuditedFile, IsAuditedWith}
 use Rattle.audit_cards.proofs.FileLemmas.{batch_of, groups_count, has_rows, place_of, rows_are_read}
 use Rattle.audit_order.proofs.SameLists.{get_or-map}
@@ -73,10 +73,10 @@ module _ (t : Tables) (b : StoredBatch) where
     states_are : map (λ (r : StoredRecord). r.state) records ≡ record_states_of t b
     states_are = ap (map (λ (r : StoredRecord). r.state)) records_are
 
-    so_many : (state : RecordState) → records_so state records ≡ count_records (record_states_of t b) state
+    so_many : (state : RecordState) → records_in_state state records ≡ count_records (record_states_of t b) state
     so_many state = sym (sum_by-map (λ s. cond (same_record_state state s) 1 0) (λ (r : StoredRecord). r.state) records) ∙ ap (λ states. count_records states state) states_are
 
-    so_spoiled : sessions_so session.Spoiled sessions ≡ count_sessions (session_states_of t b) session.Spoiled
+    so_spoiled : sessions_in_state session.Spoiled sessions ≡ count_sessions (session_states_of t b) session.Spoiled
     so_spoiled =
         sum_by-IsPermutation (λ (s : StoredSession). cond (same_session_state session.Spoiled s.state) 1 0) (filter (is_session_of b.id) t.sessions) sessions same
         ∙ sym (sum_by-map (λ s. cond (same_session_state session.Spoiled s) 1 0) (λ (s : StoredSession). s.state) (filter (is_session_of b.id) t.sessions))

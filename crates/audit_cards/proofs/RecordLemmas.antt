@@ -82,8 +82,8 @@ module _ (own : List StoredSession) (r : StoredRecord) where
     spoiled = spoiled ∙ sym (counted is_spoiled);
   }
 
-  pub stands_so : StandsBy (states_in own) r → (r.spoiled ≡ so is_spoiled) × (r.state ≡ counts)
-  stands_so a = (a.spoiled ∙ counted is_spoiled, a.state ∙ state_is)
+  pub stands_by_parts : StandsBy (states_in own) r → (r.spoiled ≡ so is_spoiled) × (r.state ≡ counts)
+  stands_by_parts a = (a.spoiled ∙ counted is_spoiled, a.state ∙ state_is)
 
   pub stands_sound : StandsBy (states_in own) r → IsSoundCount (so has_card) (so is_spoiled) (is_withdrawn r) r.remakes
   stands_sound a =
@@ -101,7 +101,7 @@ module _ (own : List StoredSession) (r : StoredRecord) where
         ∙ ap (λ n. state_by_count (ltb 0 (so is_good)) (ltb 0 (so is_running)) (is_withdrawn r) (ltb r.remakes n)) spoiled_is
 
     pub so_by_counts : StandsBy (states_in own) r → (r.spoiled ≡ spoiled) × (r.state ≡ state)
-    so_by_counts a = let so_is = stands_so a in (so_is.0 ∙ sym spoiled_is, so_is.1 ∙ sym states_agree)
+    so_by_counts a = let so_is = stands_by_parts a in (so_is.0 ∙ sym spoiled_is, so_is.1 ∙ sym states_agree)
 
     pub stands_by_counts : (cards : ℕ) → cards ≡ so has_card → r.spoiled ≡ spoiled → r.state ≡ state → IsSoundCount cards spoiled (is_withdrawn r) r.remakes → StandsBy (states_in own) r
     stands_by_counts cards cards_is spoils stands_there sound =

@@ -35,25 +35,25 @@ pub record IsNamed (n : List ℕ) (names : List (List ℕ)) : Type 0 where
   pub there : list_any (bytes_eq n) names ≡ true
   pub once : AllPairs (λ (m k : List ℕ). bytes_eq m k ≡ false) names
 
--- the number of records with the state `state`; `sessions_so` is the number of sessions
-abbrev pub records_so : RecordState → List StoredRecord → ℕ
-records_so state records = count_by (λ (r : StoredRecord). same_record_state state r.state) records
+-- the number of records with the state `state`; `sessions_in_state` is the number of sessions
+abbrev pub records_in_state : RecordState → List StoredRecord → ℕ
+records_in_state state records = count_by (λ (r : StoredRecord). same_record_state state r.state) records
 
-abbrev pub sessions_so : SessionState → List StoredSession → ℕ
-sessions_so state sessions = count_by (λ (s : StoredSession). same_session_state state s.state) sessions
+abbrev pub sessions_in_state : SessionState → List StoredSession → ℕ
+sessions_in_state state sessions = count_by (λ (s : StoredSession). same_session_state state s.state) sessions
 
 -- The counters of batch `b` count the records `records`.
 pub record CountsRecords (records : List StoredRecord) (b : StoredBatch) : Type 0 where
-  pub waiting : b.waiting ≡ records_so rec.Waiting records
-  pub running : b.running ≡ records_so rec.Running records
-  pub failed : b.failed ≡ records_so rec.Failed records
-  pub withdrawn : b.withdrawn ≡ records_so rec.Withdrawn records
-  pub good : b.good ≡ records_so rec.Good records
+  pub waiting : b.waiting ≡ records_in_state rec.Waiting records
+  pub running : b.running ≡ records_in_state rec.Running records
+  pub failed : b.failed ≡ records_in_state rec.Failed records
+  pub withdrawn : b.withdrawn ≡ records_in_state rec.Withdrawn records
+  pub good : b.good ≡ records_in_state rec.Good records
 
 -- The counters of batch `b` count the sessions `sessions`.
 pub record CountsSessions (sessions : List StoredSession) (b : StoredBatch) : Type 0 where
   pub all : b.sessions ≡ length sessions
-  pub spoiled : b.spoiled ≡ sessions_so session.Spoiled sessions
+  pub spoiled : b.spoiled ≡ sessions_in_state session.Spoiled sessions
 
 -- If batch `b` is closed, all records are good or withdrawn.
 abbrev pub IsClosedWell : List StoredRecord → StoredBatch → Type 0

@@ -69,7 +69,7 @@ fn is_numbered(grouping: &StoredGrouping, id: u64, line: u64) -> bool
 }
 
 // Returns `true` if `grouping` has the rank, the encryption and the `tol` field of `row`.
-fn has_marks(grouping: &StoredGrouping, row: &Row) -> bool
+fn has_same_fields(grouping: &StoredGrouping, row: &Row) -> bool
     ensures { IsTrue result ↔ ((grouping.now.rank ≡ row.now.rank)
         × (grouping.now.enc ≡ row.now.enc) × (grouping.now.tol ≡ row.now.tol)) }
 {
@@ -103,7 +103,7 @@ fn is_grouping(grouping: &StoredGrouping, id: u64, line: u64, row: &Row, names: 
     if !is_placed(grouping, row, names) {
         return false;
     }
-    if !has_marks(grouping, row) {
+    if !has_same_fields(grouping, row) {
         return false;
     }
     has_bytes(grouping, row)

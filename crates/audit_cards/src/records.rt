@@ -83,7 +83,7 @@ fn state_by(stored: &StoredRecord, good: u64, running: u64, spoiled: u64) -> Rec
 }
 
 // Returns `true` if the row has this number of spoiled sessions and this state.
-fn is_so(stored: &StoredRecord, spoiled: u64, state: RecordState) -> bool
+fn has_spoiled_and_state(stored: &StoredRecord, spoiled: u64, state: RecordState) -> bool
     ensures { IsTrue result ↔ ((stored.now.spoiled ≡ spoiled) × (stored.now.state ≡ state)) }
 {
     stored.spoiled == spoiled && stored.state == state
@@ -104,7 +104,7 @@ fn stands_by(stored: &StoredRecord, own: &[SessionRef<'_>]) -> bool
     let good = count_of(own, SessionState::Good);
     let running = count_of(own, SessionState::Running);
     let spoiled = count_of(own, SessionState::Spoiled);
-    if !is_so(stored, spoiled, state_by(stored, good, running, spoiled)) {
+    if !has_spoiled_and_state(stored, spoiled, state_by(stored, good, running, spoiled)) {
         return false;
     }
     is_remade(stored, cards_of(own), spoiled)

@@ -122,8 +122,8 @@ abbrev from_inside : State → List (List ℕ) → List ℕ → List ℕ → Lis
 from_inside s fields field xs = records_next records_after (next_record default_config s fields field xs)
 
 -- after `records` CSV records, `count` fields of the next one have ended
-abbrev Stands : List (List (List ℕ)) → ℕ → ℕ → State → List (List ℕ) → List ℕ → List ℕ → Type 0
-Stands rows records count s fields field xs =
+abbrev IsAfterFields : List (List (List ℕ)) → ℕ → ℕ → State → List (List ℕ) → List ℕ → List ℕ → Type 0
+IsAfterFields rows records count s fields field xs =
     (length fields ≡ count) × (1 ≤ count → is_inside s ≡ true) × (drop records rows ≡ from_inside s fields field xs)
 
 first-wide : (rows : List (List (List ℕ))) (n : ℕ) (o : Option Read) → drop n rows ≡ records_next records_after o → IsLonger 6 o → IsWideAt rows n
@@ -132,7 +132,7 @@ first-wide rows n o is (p, found, long) =
     (p.0, (dropped rows n p.0 (records_after p.1 p.2) first).0, long)
 
 wide-there : (rows : List (List (List ℕ))) (s : State) (records count : ℕ) (fields : List (List ℕ)) (field xs : List ℕ) (n : ℕ)
-    → Stands rows records count s fields field xs → wide_after s records count xs ≡ Some n → IsWideAt rows n
+    → IsAfterFields rows records count s fields field xs → wide_after s records count xs ≡ Some n → IsWideAt rows n
 unfolding wide_after next_record
 wide-there rows s records count fields field [] n stands found = absurd (none-some n found)
 wide-there rows s records count fields field (c ∷ rest) n (counted, begun, is) found =
@@ -140,7 +140,7 @@ wide-there rows s records count fields field (c ∷ rest) n (counted, begun, is)
     (λ s records count fields field. wide-there rows s records count fields field rest n) is found
   where
     at : (r : State × Action) → (is_end r.1 ≡ true → ends_at_end r.0 ≡ false) → BeginsField r → (1 ≤ count → StaysInside r)
-        → ((s : State) (records count : ℕ) (fields : List (List ℕ)) (field : List ℕ) → Stands rows records count s fields field rest → wide_after s records count rest ≡ Some n → IsWideAt rows n)
+        → ((s : State) (records count : ℕ) (fields : List (List ℕ)) (field : List ℕ) → IsAfterFields rows records count s fields field rest → wide_after s records count rest ≡ Some n → IsWideAt rows n)
         → drop records rows ≡ records_next records_after
         (if is_end r.1 then Some (fields_after r.1 fields field, r.0, rest)
         else next_record default_config r.0 (fields_after r.1 fields field) (field_after r.1 c field) rest)

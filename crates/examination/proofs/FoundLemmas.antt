@@ -16,12 +16,12 @@ use Rattle.sql_tables.specs.declared.versions.VersionMatch.{VersionMatch}
 use Rattle.table_reads.specs.Reading.{HasForAudit, HoldsNoneOf, IsForAudit, Reads}
 use Rattle.table_reads.specs.Rowids.{StandAsMade}
 use Rattle.table_reads.specs.declared.tables.HeldRows.{HeldRows}
-use Rattle.examination.specs.Findings.{AreOfSoundContents, HasVerdict, IsFinding, Judges}
-use Rattle.examination.specs.Standings.{Stands}
+use Rattle.examination.specs.Findings.{AreOfSoundContents, HasVerdict, IsDamageOf, IsFinding}
+use Rattle.examination.specs.Standings.{IsSchemaMatch}
 use Rattle.examination.specs.declared.finding.Finding.{Finding}
 use Rattle.examination.specs.declared.finding.Finding.TheVariants.{NotOurs, Read, Unreadable}
-use Rattle.examination.specs.declared.finding.Standing.{Standing}
-use Rattle.examination.specs.declared.finding.Standing.TheVariants.{Ours}
+use Rattle.examination.specs.declared.finding.SchemaMatch.{SchemaMatch}
+use Rattle.examination.specs.declared.finding.SchemaMatch.TheVariants.{Ours}
 use Rattle.examination.proofs.WholeRows.{read_from}
 
 -- ---- the audit
@@ -37,7 +37,7 @@ verdict_of t u failing sound first sorted same = record {
   first = first;
 }
 
-rows_judged : (db : Database) (found : VersionMatch) (held : HeldRows) (finding : Finding) → (IsTrue found.is_exact ↔ (db.schema ≡ our_schema)) → IsForAudit found.version db held → Judges found held finding → IsFinding db finding
+rows_judged : (db : Database) (found : VersionMatch) (held : HeldRows) (finding : Finding) → (IsTrue found.is_exact ↔ (db.schema ≡ our_schema)) → IsForAudit found.version db held → IsDamageOf found held finding → IsFinding db finding
 rows_judged db found held (NotOurs difference) exact is judged = absurd judged
 rows_judged db found held Unreadable exact is judged = absurd judged
 rows_judged db found held (Read rows failing) exact is judged =
@@ -50,16 +50,16 @@ rows_judged db found held (Read rows failing) exact is judged =
 -- ---- the same state, and a later state that shows the same database
 
 -- The tables are the tables of the version `found`.
-pub stands_as : (db : Database) (given : Standing) (found : VersionMatch) → given ≡ Ours found → Stands db given → Stands db (Ours found)
-stands_as db given found is value = subst (Stands db) is value
+pub stands_as : (db : Database) (given : SchemaMatch) (found : VersionMatch) → given ≡ Ours found → IsSchemaMatch db given → IsSchemaMatch db (Ours found)
+stands_as db given found is value = subst (IsSchemaMatch db) is value
 
-module _ (old mid : State) (kept : IsKept old mid) (found : VersionMatch) (is : Stands old.now (Ours found)) where
+module _ (old mid : State) (kept : IsKept old mid) (found : VersionMatch) (is : IsSchemaMatch old.now (Ours found)) where
   pub none_read : (held : Option HeldRows) → held ≡ None → Reads (HoldsNoneOf found.version) (HasForAudit found.version) mid held → IsFinding old.now Unreadable
   none_read held none read =
       let v = found.version in
       (v, is.0, subst (HoldsNoneOf v) (kept.now_is read.0) (subst (λ x. MatchOption x (HoldsNoneOf v mid.now) (HasForAudit v mid.now)) none read.1))
 
-  pub read_judged : (given : Option HeldRows) (held : HeldRows) → given ≡ Some held → Reads (HoldsNoneOf found.version) (HasForAudit found.version) mid given → (r : Result Finding Error) → IfOk r (Judges found held) → IfOk r (IsFinding old.now)
+  pub read_judged : (given : Option HeldRows) (held : HeldRows) → given ≡ Some held → Reads (HoldsNoneOf found.version) (HasForAudit found.version) mid given → (r : Result Finding Error) → IfOk r (IsDamageOf found held) → IfOk r (IsFinding old.now)
   read_judged given held some read (Ok finding) judged =
       let v = found.version in
       let has : HasForAudit v mid.now held = subst (λ x. MatchOption x (HoldsNoneOf v mid.now) (HasForAudit v mid.now)) some read.1 in

@@ -3,7 +3,7 @@ use Rattle.sqlite.specs.Effect.{Database}
 use Rattle.table_rows.specs.Tables.{Tables}
 use Rattle.audit_order.specs.Order.{AreSorted}
 use Rattle.audit_rows.specs.Rules.{FailsFirst, rules}
-use Rattle.sql_tables.specs.Alike.{HasJust}
+use Rattle.sql_tables.specs.Alike.{HasExactly}
 use Rattle.sql_tables.specs.Versions.{schema_of}
 use Rattle.sql_tables.specs.declared.versions.Version.{Version}
 use Rattle.table_reads.specs.Holding.{HoldsRows, IsOfVersion, SaysVersion}
@@ -22,7 +22,7 @@ IsNotOurs db = (v : Version) → ¬ IsOfVersion v db
 -- Only the row of `version` is wrong, or `difference` is a difference from the tables of the
 -- nearest version.
 abbrev pub SaysHow : Database → Difference → Type 0
-SaysHow db OtherVersion = (v : Version) × HasJust db.schema (schema_of v) × ¬ SaysVersion v db
+SaysHow db OtherVersion = (v : Version) × HasExactly db.schema (schema_of v) × ¬ SaysVersion v db
 SaysHow db difference = Differs (schema_of (nearest db.schema)) db.schema difference
 
 -- ---- the rows aren't the rows of sound contents

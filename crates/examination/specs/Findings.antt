@@ -55,8 +55,8 @@ IsWhole Unreadable = Unit {0}
 IsWhole (Read rows failing) = HasVerdict rows.tables failing
 
 -- The finding has the rows `held` of the version `found`, in another order, with their verdict.
-abbrev pub Judges : VersionMatch → HeldRows → Finding → Type 0
-Judges found held (NotOurs difference) = ⊥
-Judges found held Unreadable = ⊥
-Judges found held (Read rows failing) =
+abbrev pub IsDamageOf : VersionMatch → HeldRows → Finding → Type 0
+IsDamageOf found held (NotOurs difference) = ⊥
+IsDamageOf found held Unreadable = ⊥
+IsDamageOf found held (Read rows failing) =
     (rows.version ≡ found.version) × HaveSameRows rows.tables held.tables × (IsTrue rows.as_made ↔ (IsTrue found.is_exact × IsTrue held.apart)) × HasVerdict rows.tables failing

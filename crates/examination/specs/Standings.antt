@@ -6,9 +6,9 @@ use Rattle.sql_tables.specs.Tables.{our_schema}
 use Rattle.sql_tables.specs.Versions.{schema_of}
 use Rattle.table_reads.specs.Holding.{IsOfVersion}
 use Rattle.examination.specs.Causes.{IsNotOurs, SaysHow}
-use Rattle.examination.specs.declared.finding.Standing.{Standing}
-use Rattle.examination.specs.declared.finding.Standing.TheVariants.{NotOurs, Ours}
+use Rattle.examination.specs.declared.finding.SchemaMatch.{SchemaMatch}
+use Rattle.examination.specs.declared.finding.SchemaMatch.TheVariants.{NotOurs, Ours}
 
-abbrev pub Stands : Database → Standing → Type 0
-Stands db (Ours m) = IsOfVersion m.version db × AreThere db.schema (schema_of m.version).tables × (IsTrue m.is_exact ↔ (db.schema ≡ our_schema))
-Stands db (NotOurs difference) = IsNotOurs db × SaysHow db difference
+abbrev pub IsSchemaMatch : Database → SchemaMatch → Type 0
+IsSchemaMatch db (Ours m) = IsOfVersion m.version db × AreThere db.schema (schema_of m.version).tables × (IsTrue m.is_exact ↔ (db.schema ≡ our_schema))
+IsSchemaMatch db (NotOurs difference) = IsNotOurs db × SaysHow db difference

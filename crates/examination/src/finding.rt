@@ -3,12 +3,12 @@ ghost use Rattle.std.specs.Prelude.{◌≡◌, ◌↔◌, false, IfErr, IfOk, Is
 ghost use Rattle.sqlite.specs.Held.{state};
 ghost use Rattle.sqlite.specs.State.{HasCleanDisk, is_disk_error};
 ghost use Rattle.sql_base.specs.Unchanged.{LooksWithCause};
-ghost use Rattle.sql_tables.specs.Alike.{HasJust};
+ghost use Rattle.sql_tables.specs.Alike.{HasExactly};
 ghost use Rattle.sql_tables.specs.Versions.{schema_of};
 ghost use Rattle.sql_tables.specs.declared.versions.Version.{Version as OfVersion};
 ghost use Rattle.examination.specs.Differences.{Differs, nearest};
-ghost use Rattle.examination.specs.Findings.{IsFinding, IsWhole, Judges};
-ghost use Rattle.examination.specs.Standings.{Stands};
+ghost use Rattle.examination.specs.Findings.{IsDamageOf, IsFinding, IsWhole};
+ghost use Rattle.examination.specs.Standings.{IsSchemaMatch};
 
 use crate::difference::Difference;
 use crate::schemas::{nearest, schema_difference};
@@ -22,7 +22,7 @@ use table_rows::Tables;
 // Returns the difference between the tables and the nearest version. An error is never a disk
 // error.
 fn nearest_difference<S: Alter>(alloc: Global, conn: &Connection<S>) -> Result<Difference, Error>
-    requires { (v : OfVersion) → ¬ HasJust (state S.Store conn.now).now.schema (schema_of v) }
+    requires { (v : OfVersion) → ¬ HasExactly (state S.Store conn.now).now.schema (schema_of v) }
     ensures value { IfOk result (Differs (schema_of (nearest (state S.Store conn.now).now.schema))
         (state S.Store conn.now).now.schema) }
     ensures cause { IfErr result (λ e. is_disk_error e ≡ false) }
@@ -34,7 +34,7 @@ fn nearest_difference<S: Alter>(alloc: Global, conn: &Connection<S>) -> Result<D
 
 /// The version of a database.
 #[derive(Drop)]
-pub(crate) enum Standing {
+pub(crate) enum SchemaMatch {
     /// The tables are the tables of a version.
     Ours { found: VersionMatch },
     /// The tables aren't the tables of any schema version.
@@ -43,21 +43,21 @@ pub(crate) enum Standing {
 
 // Returns the version whose tables the database has, if the row of `version` has its number, and
 // otherwise the difference.
-fn standing_of<S: Alter>(alloc: Global, conn: &mut Connection<S>) -> Result<Standing, Error>
+fn standing_of<S: Alter>(alloc: Global, conn: &mut Connection<S>) -> Result<SchemaMatch, Error>
     requires { conn.old.in_transaction ≡ false }
     ensures value { HasCleanDisk (state S.Store conn.new)
-        → IfOk result (Stands (state S.Store conn.old).now) }
+        → IfOk result (IsSchemaMatch (state S.Store conn.old).now) }
     ensures looks { LooksWithCause S.Store conn.old conn.new result }
 {
     let Some(found) = version_in(alloc, conn)? else {
         let difference = nearest_difference(alloc, conn)?;
-        return Ok(Standing::NotOurs { difference });
+        return Ok(SchemaMatch::NotOurs { difference });
     };
     if says(conn, found.version)? {
-        Ok(Standing::Ours { found })
+        Ok(SchemaMatch::Ours { found })
     } else {
         let difference = Difference::OtherVersion;
-        Ok(Standing::NotOurs { difference })
+        Ok(SchemaMatch::NotOurs { difference })
     }
 }
 
@@ -103,7 +103,7 @@ fn are_both(is_exact: bool, apart: bool) -> bool
 // Sorts and audits `held`. No audit rule depends on the request bytes or the body of a reply. An
 // error is never a disk error.
 fn judged(alloc: Global, found: VersionMatch, mut held: HeldRows) -> Result<Finding, Error>
-    ensures value { IfOk result (Judges found held) }
+    ensures value { IfOk result (IsDamageOf found held) }
     ensures whole { IfOk result IsWhole }
     ensures cause { IfErr result (λ e. is_disk_error e ≡ false) }
 {
@@ -137,8 +137,8 @@ pub fn examine<S: Alter>(alloc: Global, conn: &mut Connection<S>) -> Result<Find
     ensures looks { LooksWithCause S.Store conn.old conn.new result }
 {
     let found = match standing_of(alloc, conn)? {
-        Standing::Ours { found } => found,
-        Standing::NotOurs { difference } => return Ok(Finding::NotOurs { difference }),
+        SchemaMatch::Ours { found } => found,
+        SchemaMatch::NotOurs { difference } => return Ok(Finding::NotOurs { difference }),
     };
     let Some(held) = read_for_audit(alloc, conn, found.version)? else {
         return Ok(Finding::Unreadable);

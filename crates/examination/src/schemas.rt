@@ -2,7 +2,7 @@
 ghost use Rattle.std.specs.Prelude.{◌≡◌, ◌≢◌, ◌↔◌, IfOk, IsTrue, MatchOption};
 ghost use Rattle.sql_base.specs.Columns.{no_schema};
 ghost use Rattle.sqlite_catalog.specs.Change.{is_reserved};
-ghost use Rattle.sql_tables.specs.Alike.{AreAmong, HasJust, HasNoFurtherKey, IsOneOf};
+ghost use Rattle.sql_tables.specs.Alike.{AreAmong, HasExactly, HasNoFurtherKey, IsOneOf};
 ghost use Rattle.sql_tables.specs.Alike.{is_no_further_key};
 ghost use Rattle.examination.specs.Differences.{Differs, IsFirstWithout, has_table, has_view};
 ghost use Rattle.examination.specs.Differences.{Lacks, is_taken, nearest};
@@ -134,7 +134,7 @@ pub(crate) fn schema_difference(
     schema: &Schema,
     ours: &Schema,
 ) -> Result<Difference, AllocError>
-    requires { ¬ HasJust schema.now ours.now }
+    requires { ¬ HasExactly schema.now ours.now }
     ensures { IfOk result (Differs ours.now schema.now) }
 {
     if is_empty(schema) {

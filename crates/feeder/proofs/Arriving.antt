@@ -164,7 +164,7 @@ leads_fine names w d g leads fine =
 
 -- `a` is an arrival in the list of events: of a packet, or from an office, whose name isn't in
 -- `names`
-pub record Comes (names : List (List ℕ)) (w : World) (a : Arrived) : Type 0 where
+pub record IsListedArrival (names : List (List ℕ)) (w : World) (a : Arrived) : Type 0 where
   pub name : IsName a.client
   pub ranged : IsRangedCall a.request
   pub done : HasDone w.contents.facts w.cards a.request
@@ -259,7 +259,7 @@ entry_for names w fine p i e listed there some =
 
 -- ---- an arrival
 
-module _ (names : List (List ℕ)) (w : World) (a : Arrived) (comes : Comes names w a) (fine : Fine names w) where
+module _ (names : List (List ℕ)) (w : World) (a : Arrived) (comes : IsListedArrival names w a) (fine : Fine names w) where
   abbrev c : Contents
   c = w.contents
 

@@ -14,7 +14,7 @@ use Rattle.job_facts.specs.States.{session_numbered}
 use Rattle.arrivals.specs.Commands.{IsCommand}
 use Rattle.feeder.specs.declared.feeder.Stand.{Stand}
 use Rattle.feeder.specs.declared.feeder.Stand.TheVariants.{Idle, Asks, HasCommand, Stale}
-use Rattle.feeder.specs.Table.{Act, Apply, Eject, IsAsked, IsFeeder, IsStand, Makes, Row, Send, Stands, Wait, answer_row, card_row, command_row, is_answerable, moved, no_row, open_row, release_row, reply_row, reset_row}
+use Rattle.feeder.specs.Table.{Act, Apply, Becomes, Eject, IsAsked, IsFeeder, IsStand, Makes, Row, Send, Wait, answer_row, card_row, command_row, is_answerable, moved, no_row, open_row, release_row, reply_row, reset_row}
 use Rattle.feeder.specs.World.{Machine, World, card_left, cards_after}
 use Rattle.feeder.specs.ShopFloor.{IsCountedGood, sequence_of}
 use Rattle.feeder.proofs.Fine.{Fine, Fits, Fresh, HasCard, Holds}
@@ -59,7 +59,7 @@ module _ (names : List (List ℕ)) (w : World) (name : List ℕ) (x : Machine) (
   no_row_goes = let was = fine.machines name x is in quiet_goes names w name x is fine no_row tt tt was.feeder was.name_is was.holds refl (put_wait f x.card)
 
   -- A feeder that changes only its state keeps its invariant if the new state is valid.
-  stands_is : (stand : Stand) → IsStand x.feeder.boot x.feeder.place stand → IsFeeder (moved x.feeder (Stands stand))
+  stands_is : (stand : Stand) → IsStand x.feeder.boot x.feeder.place stand → IsFeeder (moved x.feeder (Becomes stand))
   stands_is stand ok = let was = feeder_is in
       record { machine = was.machine; boot_least = was.boot_least; boot_most = was.boot_most; place_least = was.place_least; place_most = was.place_most; stand = ok }
 
@@ -67,11 +67,11 @@ module _ (names : List (List ℕ)) (w : World) (name : List ℕ) (x : Machine) (
   makes_is call few ok = let was = feeder_is in
       record { machine = was.machine; boot_least = was.boot_least; boot_most = was.boot_most; place_least = omega arith; place_most = omega arith; stand = ok }
 
-  idle_goes : (act : Act) → IsQuietAct act → PutOutIs f x.card act → GoesBy (record { move = Stands Idle; act = act })
-  idle_goes act quiet good = quiet_goes names w name x is fine (record { move = Stands Idle; act = act }) idle_apart quiet (stands_is Idle tt) (fine.machines name x is).name_is tt refl good
+  idle_goes : (act : Act) → IsQuietAct act → PutOutIs f x.card act → GoesBy (record { move = Becomes Idle; act = act })
+  idle_goes act quiet good = quiet_goes names w name x is fine (record { move = Becomes Idle; act = act }) idle_apart quiet (stands_is Idle tt) (fine.machines name x is).name_is tt refl good
 
-  stale_goes : (act : Act) → IsQuietAct act → PutOutIs f x.card act → GoesBy (record { move = Stands Stale; act = act })
-  stale_goes act quiet good = quiet_goes names w name x is fine (record { move = Stands Stale; act = act }) stale_apart quiet (stands_is Stale tt) (fine.machines name x is).name_is tt refl good
+  stale_goes : (act : Act) → IsQuietAct act → PutOutIs f x.card act → GoesBy (record { move = Becomes Stale; act = act })
+  stale_goes act quiet good = quiet_goes names w name x is fine (record { move = Becomes Stale; act = act }) stale_apart quiet (stands_is Stale tt) (fine.machines name x is).name_is tt refl good
 
   makes_goes : (call : Call) (act : Act) → IsQuietAct act → PutOutIs f x.card act → x.feeder.place < 9999999 → IsAsked x.feeder.boot (x.feeder.place + 1) call
       → Holds f w.cards name (card_left x.card act) (Asks call) → GoesBy (record { move = Makes call; act = act })
@@ -80,7 +80,7 @@ module _ (names : List (List ℕ)) (w : World) (name : List ℕ) (x : Machine) (
   command_goes : (s k : ℕ) (command : List ℕ) (y : Session) → session_numbered f.sessions s ≡ Some y → y.machine ≡ name → x.card ≡ Some y.blank
       → (w.cards y.blank).received ≡ take k (sequence_of f y) → IsCommand f y.batch y.rec k command → GoesBy (command_row s k command)
   command_goes s k command y there own card had next =
-      cond_both {A = Row} (is_answerable s k) (record { move = Stands (HasCommand s k); act = Apply command }) no_row GoesBy
+      cond_both {A = Row} (is_answerable s k) (record { move = Becomes (HasCommand s k); act = Apply command }) no_row GoesBy
       (λ can.
       let both = and_parts (nat_le 1 s && nat_lt s (10 ^ 18)) (nat_lt k (2 ^ 32)) can in
       let first = and_parts (nat_le 1 s) (nat_lt s (10 ^ 18)) both.0 in
@@ -146,7 +146,7 @@ module _ (names : List (List ℕ)) (w : World) (name : List ℕ) (x : Machine) (
     where
       at : (stand : Stand) → IsStand x.feeder.boot x.feeder.place stand → Holds f w.cards name x.card stand → GoesBy (card_row x.feeder.place stand sw)
       at (HasCommand s k) ok has =
-          cond_both {A = Row} (nat_le 9999999 x.feeder.place) (record { move = Stands Idle; act = Eject false }) (record { move = Makes (Job (request.Answer s k sw)); act = Send }) GoesBy
+          cond_both {A = Row} (nat_le 9999999 x.feeder.place) (record { move = Becomes Idle; act = Eject false }) (record { move = Makes (Job (request.Answer s k sw)); act = Send }) GoesBy
           (λ last. idle_goes (Eject false) tt (put_bad f x.card))
           (λ more. makes_goes (Job (request.Answer s k sw)) Send tt (put_send f x.card) (leb-false 9999999 x.feeder.place more) (ok.0, ok.1, ok.2, small) has)
       at Idle ok has = no_row_goes

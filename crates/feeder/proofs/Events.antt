@@ -33,7 +33,7 @@ use Rattle.feeder.proofs.Fine.{Cards, Machines, Fine, Fits, Fresh, HasDone, Hold
 use Rattle.feeder.proofs.Going.{all_at, at_same, at_other, goes_fine, name_same}
 use Rattle.feeder.proofs.Rows.{moved_own, moved_sent}
 use Rattle.feeder.proofs.Calls.{card_goes, no_row_goes, reply_goes}
-use Rattle.feeder.proofs.Arriving.{Comes, decides_fine, number_apart}
+use Rattle.feeder.proofs.Arriving.{IsListedArrival, decides_fine, number_apart}
 
 -- ---- the start
 
@@ -222,7 +222,7 @@ pub last_at : {X : Type 0} (xs : List X) (y : X) → slice_get (xs ++ y ∷ []) 
 last_at [] y = refl
 last_at (x ∷ xs) y = last_at xs y
 
-arrives_fine : (names : List (List ℕ)) (w : World) (a : Arrived) (stop : Stop) → Comes names w a → Fine names w → Fine names (arrives w a stop)
+arrives_fine : (names : List (List ℕ)) (w : World) (a : Arrived) (stop : Stop) → IsListedArrival names w a → Fine names w → Fine names (arrives w a stop)
 arrives_fine names w a Before comes fine = fine
 arrives_fine names w a After comes fine = decides_fine names w a comes fine
 arrives_fine names w a No comes fine =

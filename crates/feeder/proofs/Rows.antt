@@ -20,7 +20,7 @@ use Rattle.arrivals.specs.Commands.{IsCommand}
 use Rattle.feeder.proofs.Replies.{OpenFits}
 use Rattle.feeder.specs.declared.feeder.Stand.{Stand}
 use Rattle.feeder.specs.declared.feeder.Stand.TheVariants.{Asks, HasCommand}
-use Rattle.feeder.specs.Table.{Act, Apply, Eject, FeederState, IsFeeder, Makes, Move, Row, Send, Stands, Stays, Wait, moved}
+use Rattle.feeder.specs.Table.{Act, Apply, Becomes, Eject, FeederState, IsFeeder, Makes, Move, Row, Send, Stays, Wait, moved}
 use Rattle.feeder.specs.World.{Card, Machine, Packet, World, at_serial, card_left, cards_after, put_out, with_command}
 use Rattle.feeder.specs.ShopFloor.{IsCountedGood, sequence_of}
 use Rattle.feeder.proofs.Fine.{Cards, Fine, Fits, Fresh, HasCard, Holds, IsFineCard, IsSent, OpensFresh, got}
@@ -31,12 +31,12 @@ use Rattle.feeder.proofs.Going.{Goes, name_same}
 -- if the move leads to a given state, no request is pending in that state
 abbrev pub IsQuietMove : Move → Type 0
 IsQuietMove Stays = ⊤
-IsQuietMove (Stands stand) = (call : Call) → stand ≡ Asks call → ⊥
+IsQuietMove (Becomes stand) = (call : Call) → stand ≡ Asks call → ⊥
 IsQuietMove (Makes call) = ⊤
 
 pub moved_sent : (boots : List ℕ) (f : FeederState) (move : Move) (p : Packet) → IsQuietMove move → IsSent boots f p → IsSent boots (moved f move) p
 moved_sent boots f Stays p quiet is = is
-moved_sent boots f (Stands stand) p quiet is = record {
+moved_sent boots f (Becomes stand) p quiet is = record {
   boot = is.boot;
   boot_least = is.boot_least;
   boot_most = is.boot_most;
@@ -60,7 +60,7 @@ moved_sent boots f (Makes call) p quiet is = record {
 pub moved_own : (boots : List ℕ) (f : FeederState) (move : Move) (p : Packet) → IsQuietMove move → IsSent boots f p
     → (moved f move).boot ≡ p.boot → (moved f move).place ≡ p.place → (moved f move).stand ≡ Asks p.call → (f.boot ≡ p.boot) × (f.place ≡ p.place) × (f.stand ≡ Asks p.call)
 moved_own boots f Stays p quiet is boot place stand = (boot, place, stand)
-moved_own boots f (Stands s) p quiet is boot place stand = absurd (quiet p.call stand)
+moved_own boots f (Becomes s) p quiet is boot place stand = absurd (quiet p.call stand)
 moved_own boots f (Makes call) p quiet is boot place stand = absurd (omega (arith, is.late (sym boot), place))
 
 -- ---- cards that receive no command
@@ -208,8 +208,8 @@ module _ (names : List (List ℕ)) (w : World) (name : List ℕ) (x : Machine) (
       ap (λ d. take k xs ++ d ∷ []) (sym (get_or_from_slice_get xs k c c at)) ∙ sym (take-suc xs k c (slice_get_within xs k c at)) ∙ ap (λ m. take m xs) (sym next)
 
   pub apply_goes : (s k : ℕ) (command : List ℕ) (y : Session) → session_numbered f.sessions s ≡ Some y → y.machine ≡ name → x.card ≡ Some y.blank
-      → (w.cards y.blank).received ≡ take k (sequence_of f y) → IsCommand f y.batch y.rec k command → IsFeeder (moved x.feeder (Stands (HasCommand s k)))
-      → Goes names w name (record { feeder = moved x.feeder (Stands (HasCommand s k)); card = x.card }) w.boots (cards_after w.cards x.card (Apply command))
+      → (w.cards y.blank).received ≡ take k (sequence_of f y) → IsCommand f y.batch y.rec k command → IsFeeder (moved x.feeder (Becomes (HasCommand s k)))
+      → Goes names w name (record { feeder = moved x.feeder (Becomes (HasCommand s k)); card = x.card }) w.boots (cards_after w.cards x.card (Apply command))
   apply_goes s k command y there own card had next feeder =
       let was = fine.machines name x is in
       let seq : List (List ℕ) = sequence_of f y in
@@ -230,7 +230,7 @@ module _ (names : List (List ℕ)) (w : World) (name : List ℕ) (x : Machine) (
       let two : z ≡ y = same_Some z y (sym at_t ∙ ap (session_numbered f.sessions) one ∙ there) in
       let same_m : m ≡ name = sym of_m ∙ ap (λ (v : Session). v.machine) two ∙ own in
       false≢true (sym other ∙ ap (λ n. bytes_eq n name) same_m ∙ name_same name) in
-      subst (Goes names w name (record { feeder = moved x.feeder (Stands (HasCommand s k)); card = x.card }) w.boots) (sym cards_are) (record {
+      subst (Goes names w name (record { feeder = moved x.feeder (Becomes (HasCommand s k)); card = x.card }) w.boots) (sym cards_are) (record {
         ok = record {
           feeder = feeder;
           name_is = was.name_is;
@@ -239,7 +239,7 @@ module _ (names : List (List ℕ)) (w : World) (name : List ℕ) (x : Machine) (
           holds = record { session = y; there = there; machine = own; card_is = card; received = here; within = slice_get_within seq k command at };
         };
         boots_other = λ m other. refl;
-        sent = λ z p at_name sent. moved_sent (w.boots name) x.feeder (Stands (HasCommand s k)) p (λ call asks. absurd (apart s k call asks)) (subst (λ (z : Machine). IsSent (w.boots name) z.feeder p) (sym (one_machine z at_name)) sent);
+        sent = λ z p at_name sent. moved_sent (w.boots name) x.feeder (Becomes (HasCommand s k)) p (λ call asks. absurd (apart s k call asks)) (subst (λ (z : Machine). IsSent (w.boots name) z.feeder p) (sym (one_machine z at_name)) sent);
         own = λ z p at_name sent at_boot at_place at_stand. absurd (apart s k p.call at_stand);
         more = λ serial. elim (cases_Bool (serial == y.blank)) [
           | inl hit ↦

@@ -12,7 +12,7 @@ use Rattle.feeder.specs.declared.feeder.InsertFault.{InsertFault}
 use Rattle.feeder.specs.declared.feeder.InsertFault.TheVariants.{Exhausted}
 use Rattle.feeder.specs.declared.feeder.Stand.{Stand}
 use Rattle.feeder.specs.declared.feeder.Stand.TheVariants.{Idle, Asks, HasCommand, Stale}
-use Rattle.feeder.specs.Table.{Act, Apply, Done, Eject, FeederState, Makes, Move, Send, Stands, Stays, Wait, after_insert, after_reply, asked, asked_by, card_row, done, heard_by, inserted_by, moved, no_row, number_at, reply_row}
+use Rattle.feeder.specs.Table.{Act, Apply, Becomes, Done, Eject, FeederState, Makes, Move, Send, Stays, Wait, after_insert, after_reply, asked, asked_by, card_row, done, heard_by, inserted_by, moved, no_row, number_at, reply_row}
 use Rattle.feeding.specs.Cards.{Card, card_of, end_line}
 use Rattle.feeding.specs.Feeds.{Feed, acts, by_reply, drawn, draws, goes_on, hears, is_asked, prints, put_in, settled, tried, worded}
 
@@ -29,7 +29,7 @@ then_later f g h first next = record { boot = next.boot ∙ first.boot; place = 
 
 moved_later : (f : FeederState) (move : Move) → Later f (moved f move)
 moved_later f Stays = same f
-moved_later f (Stands stand) = record { boot = refl; place = omega arith }
+moved_later f (Becomes stand) = record { boot = refl; place = omega arith }
 moved_later f (Makes call) = record { boot = refl; place = omega arith }
 
 heard_later : (f : FeederState) (ask : Option (ℕ × Call)) (n : ℕ) (r : Reply) → Later f (heard_by f ask n r).0

@@ -11,7 +11,7 @@ use Rattle.feeder.specs.declared.feeder.InsertFault.{InsertFault}
 use Rattle.feeder.specs.declared.feeder.InsertFault.TheVariants.{Exhausted}
 use Rattle.feeder.specs.declared.feeder.Stand.{Stand}
 use Rattle.feeder.specs.declared.feeder.Stand.TheVariants.{Idle, Asks, HasCommand, Stale}
-use Rattle.feeder.specs.Table.{Act, Apply, Done, Eject, FeederState, Makes, Move, Row, Send, Stands, Stays, Wait, answer_row, asked, card_row, command_row, done, heard_by, inserted_by, is_answerable, moved, no_row, open_row, release_row, reply_row, reset_row}
+use Rattle.feeder.specs.Table.{Act, Apply, Becomes, Done, Eject, FeederState, Makes, Move, Row, Send, Stays, Wait, answer_row, asked, card_row, command_row, done, heard_by, inserted_by, is_answerable, moved, no_row, open_row, release_row, reply_row, reset_row}
 use Rattle.feeding.specs.Cards.{Card, card_of, end_line}
 use Rattle.feeding.specs.Feeds.{Feed, acts, acts_by, by_reply, drawn, draws, goes_on, hears, prints, put_in, tried, worded}
 use Rattle.feeding.specs.Tries.{IsSettled, IsSettledAt}
@@ -24,7 +24,7 @@ NoCommand Stale = ⊤
 
 abbrev QuietMove : Move → Type 0
 QuietMove Stays = ⊤
-QuietMove (Stands stand) = NoCommand stand
+QuietMove (Becomes stand) = NoCommand stand
 QuietMove (Makes call) = ⊤
 
 -- only a row with the action `Apply` leads to a state with a command
@@ -41,7 +41,7 @@ IsQuiet row = QuietBy row.move row.act
 
 command_quiet : (s k : ℕ) (command : List ℕ) → IsQuiet (command_row s k command)
 command_quiet s k command =
-    cond_both {A = Row} (is_answerable s k) (record { move = Stands (HasCommand s k); act = Apply command }) no_row IsQuiet (λ can. tt) (λ cannot. tt)
+    cond_both {A = Row} (is_answerable s k) (record { move = Becomes (HasCommand s k); act = Apply command }) no_row IsQuiet (λ can. tt) (λ cannot. tt)
 
 release_quiet : (r : Reply) → IsQuiet (release_row r)
 release_quiet (reply.Product p made) = tt
@@ -68,7 +68,7 @@ row_quiet _ r = tt
 
 move_quiet : (f : FeederState) (move : Move) → NoCommand f.stand → QuietMove move → NoCommand (moved f move).stand
 move_quiet f Stays was quiet = was
-move_quiet f (Stands stand) was quiet = quiet
+move_quiet f (Becomes stand) was quiet = quiet
 move_quiet f (Makes call) was quiet = tt
 
 -- After a status word of the card, no command is waiting.
@@ -77,7 +77,7 @@ word_quiet f Idle sw is = subst NoCommand (sym is) tt
 word_quiet f (Asks call) sw is = subst NoCommand (sym is) tt
 word_quiet f Stale sw is = subst NoCommand (sym is) tt
 word_quiet f (HasCommand s k) sw is =
-    cond_both {A = Row} (nat_le 9999999 f.place) (record { move = Stands Idle; act = Eject false }) (record { move = Makes (Job (request.Answer s k sw)); act = Send })
+    cond_both {A = Row} (nat_le 9999999 f.place) (record { move = Becomes Idle; act = Eject false }) (record { move = Makes (Job (request.Answer s k sw)); act = Send })
     (λ row. NoCommand (moved f row.move).stand) (λ last. tt) (λ more. tt)
 
 -- ---- a reply

@@ -20,7 +20,7 @@ use Rattle.reply_store.specs.Runs.{Tried}
 use Rattle.server.specs.Exchanges.{Exchange, ServesAll, tries}
 use Rattle.sql_base.specs.Columns.{no_schema}
 use Rattle.schema.specs.Begun.{WasHeld}
-use Rattle.schema.specs.Link.{Has, Stands}
+use Rattle.schema.specs.Link.{FindsAtOpen, Has}
 use Rattle.schema.specs.Stores.{connection, stands_for}
 use Rattle.schema.specs.declared.store.SqlStore.{SqlStore}
 use Rattle.over_tables.specs.Opens as tables
@@ -50,13 +50,13 @@ module _ {D : Type 0} {g : Ghosts D} where
   -- ---- an open
 
   -- an opened connection has the contents of the trees that it found
-  stands_at : (conn : Held (FileStore D g)) → IsOpened conn → (b : Contents) → AreSound b → Has (file_state conn).now b → Stands (Some b) (file_state conn).committed.trees
+  stands_at : (conn : Held (FileStore D g)) → IsOpened conn → (b : Contents) → AreSound b → Has (file_state conn).now b → FindsAtOpen (Some b) (file_state conn).committed.trees
   stands_at conn opened b sound has = (
     sound,
     record { db = (file_state conn).now; is_database = (opened.1 opened.0.is_open).0; stands = ap (λ (d : Database). d.trees) opened.0.clean; has = has },
   )
 
-  stands_held : (conn : Held (FileStore D g)) → IsOpened conn → (d : Option Contents) (trees : Trees) → Stands d trees → WasHeld d (file_state conn).now → Stands d (file_state conn).committed.trees
+  stands_held : (conn : Held (FileStore D g)) → IsOpened conn → (d : Option Contents) (trees : Trees) → FindsAtOpen d trees → WasHeld d (file_state conn).now → FindsAtOpen d (file_state conn).committed.trees
   stands_held conn opened None trees at was = absurd was
   stands_held conn opened (Some b) trees at was = stands_at conn opened b at.0 (inl was)
 
@@ -67,7 +67,7 @@ module _ {D : Type 0} {g : Ghosts D} where
 
   module _ (image : Image) (conn : Held (FileStore D g)) (opened : IsOpened conn) (found : FindsIn image (file_state conn)) (c : Contents) (runs : List (List Tried)) (hold : HoldRuns image c runs) where
     -- the contents of the trees that were found are possible
-    possible : (d : Option Contents) → Stands d (file_state conn).committed.trees → ∥ ((e : Contents) × IsAfterRuns c runs e × IsFound d e) ∥₁
+    possible : (d : Option Contents) → FindsAtOpen d (file_state conn).committed.trees → ∥ ((e : Contents) × IsAfterRuns c runs e × IsFound d e) ∥₁
     possible = hold (file_state conn).committed.trees (record { holds = found.holds; reads = found.reads })
 
     pub finds : (wanted : Wanted) (store : SqlStore (FileStore D g) over_files) → tables.IsOpened wanted (file_state conn).now (stands_for over_files store) → ∥ StartsAfterRuns (stands_for over_files store) c runs ∥₁
@@ -84,7 +84,7 @@ module _ {D : Type 0} {g : Ghosts D} where
         ∥∥₁_elim (opens_again it crash.numbered (crash.closed.sound crash.clean) left crash.may_leave) squash₁
         (λ there. let may = crash.closed.quiet.outcomes trees (subst (files.recovers it) (sym (is.holds there.0 there.2)) there.1) in
         elim (refused.crash clean d (trees, may, stands)) [
-          | inl before ↦ possible d (subst (Stands d) (settled_at conn.store stays before.0 opened.0.is_open before.1) before.2)
+          | inl before ↦ possible d (subst (FindsAtOpen d) (settled_at conn.store stays before.0 opened.0.is_open before.1) before.2)
           | inr rest ↦ elim rest [
             | inl new ↦ ∥∥₁_map (possible (Some no_contents) (stands_at conn opened no_contents nothing_sound (inr (empty wanted (file_state conn).now new.0, refl)))) (λ e. (e.0, e.1, found_same d no_contents e.0 new.1 e.2))
             | inr was ↦ possible d (stands_held conn opened d trees stands was)
@@ -97,7 +97,7 @@ module _ {D : Type 0} {g : Ghosts D} (stays : (file : D) → g.may_leave file (g
     (runs : List (List Tried)) (image : Image) (sound : AreSound c) (starts : ∥ StartsAfterRuns (stands_for over_files store) c runs ∥₁)
     (serves : ServesAll (stands_for over_files store) (stands_for over_files last) es) where
   -- the trees that an open finds are possible after a crash of the connection
-  left_at : HasCleanDisk (file_state (connection last)) → (trees : Trees) → (file_state (connection last)).may_leave trees → (d : Option Contents) → Stands d trees
+  left_at : HasCleanDisk (file_state (connection last)) → (trees : Trees) → (file_state (connection last)).may_leave trees → (d : Option Contents) → FindsAtOpen d trees
       → ∥ ((e : Contents) × IsAfterRuns c (runs ++ tries es ∷ []) e × IsFound d e) ∥₁
   left_at clean trees may d stands = ∥∥₁_map starts (λ from. law.more store last c runs (tries es) sound from serves.leaves clean d (trees, may, stands))
 

@@ -18,7 +18,7 @@ use Rattle.job_facts.specs.Store.{IsFound}
 use Rattle.reply_store.specs.Runs.{Tried}
 use Rattle.server.specs.Exchanges.{Exchange, ServesAll, tries}
 use Rattle.schema.specs.Closing.{LeavesWholeFile}
-use Rattle.schema.specs.Link.{Stands}
+use Rattle.schema.specs.Link.{FindsAtOpen}
 use Rattle.schema.specs.Stores.{connection, stands_for}
 use Rattle.schema.specs.declared.store.SqlStore.{SqlStore}
 use Rattle.over_tables.specs.Opens.{IsOpened as Opens, IsOpenedWith}
@@ -35,7 +35,7 @@ pub record FindsTrees (image : Image) (trees : Trees) : Type 0 where
 -- An open of two files with these bytes isn't refused, and finds contents that are possible after
 -- the runs, the first of which began with the contents `c`.
 abbrev pub HoldRuns : Image → Contents → List (List Tried) → Type 0
-HoldRuns image c runs = (trees : Trees) → FindsTrees image trees → (d : Option Contents) → Stands d trees → ∥ ((e : Contents) × IsAfterRuns c runs e × IsFound d e) ∥₁
+HoldRuns image c runs = (trees : Trees) → FindsTrees image trees → (d : Option Contents) → FindsAtOpen d trees → ∥ ((e : Contents) × IsAfterRuns c runs e × IsFound d e) ∥₁
 
 module _ {D : Type 0} {g : Ghosts D} where
   -- A crash leaves `image` of the files of the connection. `last` is what remains of the connection

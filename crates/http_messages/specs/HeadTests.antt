@@ -5,8 +5,8 @@ use Rattle.httparse.specs.declared.spans.RequestSpans.{RequestSpans}
 use Rattle.httparse.specs.Grammar.{ReadsRequest, RequestHead}
 use Rattle.httparse.specs.Spans.{IsRequestAt, IsRequestOf, IsRequestWithin}
 use Rattle.http_messages.specs.declared.head.HeadParts.{HeadParts as PartsValue}
-use Rattle.http_messages.specs.declared.head.Found.{Found}
-use Rattle.http_messages.specs.declared.head.Found.TheVariants as found
+use Rattle.http_messages.specs.declared.head.Named.{Named}
+use Rattle.http_messages.specs.declared.head.Named.TheVariants as found
 use Rattle.http_messages.specs.declared.fixed.FixedReply.{FixedReply}
 use Rattle.http_messages.specs.declared.fixed.FixedReply.TheVariants.{Malformed}
 use Rattle.http_messages.specs.declared.flaw.Flaw.TheVariants as flaw
@@ -22,7 +22,7 @@ pub data Values : Type 0 where
   one : List ℕ → Values
   many : Values
 
-abbrev pub found_of : Found → Values
+abbrev pub found_of : Named → Values
 found_of found.None = none
 found_of (found.One value) = one value.now
 found_of found.Many = many

@@ -33,7 +33,7 @@ pub(crate) struct HeadParts<'a> {
 
 // The values of the fields with the same name: no value, one, or several.
 #[derive(Clone, Copy)]
-enum Found<'a> {
+enum Named<'a> {
     None,
     One(&'a [u8]),
     Many,
@@ -125,29 +125,29 @@ fn body_size(head: &[u8], headers: &[HeaderSpan]) -> Result<usize, FixedReply>
     ensures { result ≡ body_size (map (header_bytes head.now) headers.now) }
 {
     match find_named(head, headers, b"transfer-encoding") {
-        Found::None => size_by(find_named(head, headers, b"content-length")),
-        Found::One(_) | Found::Many => Err(FixedReply::Malformed(Flaw::TransferEncoding)),
+        Named::None => size_by(find_named(head, headers, b"content-length")),
+        Named::One(_) | Named::Many => Err(FixedReply::Malformed(Flaw::TransferEncoding)),
     }
 }
 
 // Returns the size of the body, given the values of `Content-Length`.
-fn size_by(found: Found<'_>) -> Result<usize, FixedReply>
+fn size_by(found: Named<'_>) -> Result<usize, FixedReply>
     ensures { result ≡ size_by (found_of found.entry) }
 {
     match found {
-        Found::None => Ok(0),
-        Found::One(text) => size_text(text),
-        Found::Many => Err(FixedReply::Malformed(Flaw::ContentLength)),
+        Named::None => Ok(0),
+        Named::One(text) => size_text(text),
+        Named::Many => Err(FixedReply::Malformed(Flaw::ContentLength)),
     }
 }
 
 // Returns the values of the fields with the name `name`. Names are compared without regard to ASCII
 // case (RFC 9110 section 5.1).
-fn find_named<'a>(head: &'a [u8], headers: &[HeaderSpan], name: &[u8]) -> Found<'a>
+fn find_named<'a>(head: &'a [u8], headers: &[HeaderSpan], name: &[u8]) -> Named<'a>
     requires { All (IsHeaderWithin (length head.now)) headers.now }
     ensures { found_of result ≡ values name.now (map (header_bytes head.now) headers.now) }
 {
-    let mut found = Found::None;
+    let mut found = Named::None;
     for header in headers {
         if is_named(head, header, name) {
             found = found_more(found, header.value.of(head));
@@ -164,12 +164,12 @@ fn is_named(head: &[u8], header: &HeaderSpan, name: &[u8]) -> bool
 }
 
 // Adds `value` to the values in `found`.
-fn found_more<'a>(found: Found<'a>, value: &'a [u8]) -> Found<'a>
+fn found_more<'a>(found: Named<'a>, value: &'a [u8]) -> Named<'a>
     ensures { found_of result ≡ one_more (found_of found.entry) value.now }
 {
     match found {
-        Found::None => Found::One(value),
-        Found::One(_) | Found::Many => Found::Many,
+        Named::None => Named::One(value),
+        Named::One(_) | Named::Many => Named::Many,
     }
 }
 

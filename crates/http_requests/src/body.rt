@@ -34,30 +34,30 @@ enum Primitive<'a> {
 
 /// The reason why a body isn't read.
 #[derive(Clone, Copy, Drop)]
-enum Unread {
+enum BodyFault {
     /// The body isn't JSON, isn't an object, or has a member that no request has.
     Unfit,
     /// An allocation failed.
     Memory,
 }
 
-impl From<Invalid> for Unread {
-    ghost use Rattle.http_requests.specs.declared.body.Unread.TheVariants.{Unfit};
+impl From<Invalid> for BodyFault {
+    ghost use Rattle.http_requests.specs.declared.body.BodyFault.TheVariants.{Unfit};
 
     ghost from_gives = { λ _ why. why ≡ Unfit };
 
-    fn from(_invalid: Invalid) -> Unread {
-        Unread::Unfit
+    fn from(_invalid: Invalid) -> BodyFault {
+        BodyFault::Unfit
     }
 }
 
-impl From<AllocError> for Unread {
-    ghost use Rattle.http_requests.specs.declared.body.Unread.TheVariants.{Memory};
+impl From<AllocError> for BodyFault {
+    ghost use Rattle.http_requests.specs.declared.body.BodyFault.TheVariants.{Memory};
 
     ghost from_gives = { λ _ why. why ≡ Memory };
 
-    fn from(_error: AllocError) -> Unread {
-        Unread::Memory
+    fn from(_error: AllocError) -> BodyFault {
+        BodyFault::Memory
     }
 }
 
@@ -75,27 +75,27 @@ pub(crate) fn object_in(alloc: Global, body: &[u8]) -> Result<Option<Value>, All
     };
     match read_text(alloc, text) {
         Ok(members) => Ok(Some(Value::Object(members))),
-        Err(Unread::Unfit) => Ok(None),
-        Err(Unread::Memory) => Err(AllocError),
+        Err(BodyFault::Unfit) => Ok(None),
+        Err(BodyFault::Memory) => Err(AllocError),
     }
 }
 
 // Returns the members of the object that is the whole of `text`.
-fn read_text(alloc: Global, text: &str) -> Result<Map<String, Value>, Unread>
+fn read_text(alloc: Global, text: &str) -> Result<Map<String, Value>, BodyFault>
     ensures ok { IfOk result
         (λ m. option_and_then known_primitives (option_and_then as_object (read text.now))
         ≡ Some (members_view m.entries)) }
-    ensures unfit { result ≡ Err Unread.Unfit
+    ensures unfit { result ≡ Err BodyFault.Unfit
         → option_and_then known_primitives (option_and_then as_object (read text.now)) ≡ None }
 {
     let mut scratch = Scratch::new(alloc);
     let mut reader = Reader::new(text, &mut scratch)?;
     if !take_begin_object(&mut reader) {
-        return Err(Unread::Unfit);
+        return Err(BodyFault::Unfit);
     }
     let members = read_members(alloc, &mut reader)?;
     match reader.next() {
-        Some(_) => Err(Unread::Unfit),
+        Some(_) => Err(BodyFault::Unfit),
         None => Ok(members),
     }
 }
@@ -109,17 +109,17 @@ fn take_begin_object(reader: &mut Reader<'_>) -> bool
 }
 
 // Reads the members of the body, up to the brace that closes it.
-fn read_members(alloc: Global, reader: &mut Reader<'_>) -> Result<Map<String, Value>, Unread>
+fn read_members(alloc: Global, reader: &mut Reader<'_>) -> Result<Map<String, Value>, BodyFault>
     ensures ok { IfOk result
         (λ m. converted known_primitives (members_at MOST_DEPTH reader.old)
         ≡ Some (members_view m.entries, reader.new)) }
-    ensures unfit { result ≡ Err Unread.Unfit
+    ensures unfit { result ≡ Err BodyFault.Unfit
         → converted known_primitives (members_at MOST_DEPTH reader.old) ≡ None }
 {
     let mut found = Map::new(alloc);
     'members: while let Some(name) = reader.next_key()? {
         if !is_member_name(name) {
-            return Err(Unread::Unfit);
+            return Err(BodyFault::Unfit);
         }
         let primitive = read_primitive(reader, MOST_DEPTH)?;
         let value = owned(alloc, primitive)?;

@@ -9,9 +9,9 @@ use Rattle.text_io.specs.declared.writing.WriteFailed.{WriteFailed}
 
 -- `came` is all bytes of the response, or `None` if they are more than 8,192; it is also `None` if
 -- the message wasn't sent completely
-abbrev pub Comes : Option (List ℕ) → Result (Unit {0}) WriteFailed → Option (Vec ℕ Global) → Type 0
-Comes known (Ok u) came = (raw : List ℕ) × Agrees known raw × IsWithin 8192 raw came
-Comes known (Err e) came = came ≡ None
+abbrev pub IsResponse : Option (List ℕ) → Result (Unit {0}) WriteFailed → Option (Vec ℕ Global) → Type 0
+IsResponse known (Ok u) came = (raw : List ℕ) × Agrees known raw × IsWithin 8192 raw came
+IsResponse known (Err e) came = came ≡ None
 
 -- the result of an exchange: `None` if it failed, or an error if an allocation failed
 abbrev pub came_of : Result (Option (Vec ℕ Global)) ReadFault → Result (Option (Vec ℕ Global)) AllocError

@@ -2,7 +2,7 @@
 ghost use Rattle.std.specs.Prelude.{IfOk, Result};
 ghost use Rattle.text_io.specs.Written.{Writes};
 ghost use Rattle.text_io.specs.declared.writing.WriteFailed.{WriteFailed};
-ghost use Rattle.loopback.specs.Asking.{Comes};
+ghost use Rattle.loopback.specs.Asking.{IsResponse};
 
 use std::alloc::Global;
 use std::io::{Read, Write};
@@ -25,7 +25,7 @@ pub(crate) fn send_and_read<P: Read + Write>(
 ) -> Result<Option<Vec<u8>>, ReadFault>
     ensures { IfOk result (λ came. (after : P) × (sent : Result (Unit {0}) WriteFailed)
         × Writes (P.contents peer.old) (P.contents after) message.now sent
-        × Comes (P.remaining after) sent came) }
+        × IsResponse (P.remaining after) sent came) }
 {
     match write_text(peer, message) {
         Ok(()) => read_within(alloc, peer, MOST_REPLY),

@@ -6,7 +6,7 @@ use Rattle.job_facts.specs.Reopening.{OpensWith}
 use Rattle.job_facts.specs.Store.{State}
 use Rattle.image_laws.specs.Image.{image}
 use Rattle.sql_base.specs.Columns.{no_schema}
-use Rattle.sql_tables.specs.Alike.{HasJust}
+use Rattle.sql_tables.specs.Alike.{HasExactly}
 use Rattle.sql_tables.specs.Versions.{schema_of}
 use Rattle.sql_tables.specs.declared.versions.Version.{Version}
 use Rattle.sql_tables.specs.declared.versions.Version.TheVariants.{One, Two, Three}
@@ -46,4 +46,4 @@ older_number (Some Three) = None
 -- `older` is the number of the schema version of the database, if the version was found and is
 -- older than the current one
 abbrev pub IsOlder : Database → Option ℕ → Type 0
-IsOlder db older = (found : Option Version) × IfSome found (λ v. HasJust db.schema (schema_of v)) × (older ≡ older_number found)
+IsOlder db older = (found : Option Version) × IfSome found (λ v. HasExactly db.schema (schema_of v)) × (older ≡ older_number found)

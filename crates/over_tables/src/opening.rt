@@ -5,7 +5,7 @@ ghost use Rattle.sqlite.specs.Held.{state};
 ghost use Rattle.sqlite.specs.State.{HasCleanDisk};
 ghost use Rattle.sql_base.specs.Columns.{no_schema};
 ghost use Rattle.schema.specs.Left.{TakesAt};
-ghost use Rattle.schema.specs.Link.{Stands};
+ghost use Rattle.schema.specs.Link.{FindsAtOpen};
 ghost use Rattle.schema.specs.Stores.{connection, stands_for};
 ghost use Rattle.over_tables.specs.Opens.{Begins, IsOlder, IsOpened, older_number};
 ghost use Rattle.over_tables.specs.Refusals.{IsDamaged, IsNotOurs, IsRefused, ReportsStorage};
@@ -102,7 +102,7 @@ pub fn store_over<S: Alter>(
     ensures refuses { IfErr result (λ e. HasCleanDisk (state S.Store e.0)
         → IsTrue (state S.Store conn).is_open → (IsNotOurs e.1 ⊎ IsDamaged e.1)
         → (state S.Store conn).now.schema ≢ no_schema
-        → Stands None (state S.Store conn).now.trees) }
+        → FindsAtOpen None (state S.Store conn).now.trees) }
     ensures storage { IfErr result (λ e. HasCleanDisk (state S.Store e.0)
         → e.1 ≡ FileFault.Storage
         → ReportsStorage S.Store (state S.Store conn) (state S.Store e.0)) }

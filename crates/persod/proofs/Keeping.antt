@@ -14,7 +14,7 @@ use Rattle.server_run.proofs.RunLemmas.{serves-begun}
 use Rattle.over_tables.specs.declared.fault.FileFault.{FileFault}
 use Rattle.over_tables.specs.declared.opening.Wanted.{Wanted}
 use Rattle.store_files.specs.Files.{IsNotTaken, IsTurnedDown, MayHaveCommits, OverFiles, RunsOver}
-use Rattle.store_files.specs.declared.file.Found.{Found}
+use Rattle.store_files.specs.declared.file.FileState.{FileState}
 use Rattle.file_runs.specs.Files.{FindRuns, LeaveRuns, RefuseRuns}
 use Rattle.subcommands.specs.declared.end.End.{End}
 use Rattle.persod.specs.Tasks.{EndsOver, IsNotServed, KeepsRuns, LacksPort, RefusesRuns, Serves, ServesFile, ServesOver, exchanges_of}
@@ -22,7 +22,7 @@ use Rattle.persod.specs.declared.tasks.ServeTask.{ServeTask}
 
 module _ {D : Type 0} {g : Ghosts D} (turns : AreLeftInTurn (stands_for {S = FileStore D g} over_files)) (find : FindRuns g) (leave : LeaveRuns g) (refuse : RefuseRuns g) (image : Image) (IsFresh : Bool → D → Type 0) (wanted : Wanted)
     (task : ServeTask) (end : End) where
-  served : (found : Found) (store last : SqlStore (FileStore D g) over_files) (whole : Type 0) (Unclosed : StoreFault → Type 0)
+  served : (found : FileState) (store last : SqlStore (FileStore D g) over_files) (whole : Type 0) (Unclosed : StoreFault → Type 0)
       → (ran : ServesFile task found (stands_for over_files store) (stands_for over_files last) whole Unclosed end ⊎ LacksPort task (stands_for over_files store) (stands_for over_files last) whole Unclosed end)
       → ServesAll (stands_for over_files store) (stands_for over_files last) (exchanges_of ran)
   served found store last whole Unclosed (inl serves) = serves.serves

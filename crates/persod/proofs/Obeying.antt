@@ -14,7 +14,7 @@ use Rattle.over_tables.specs.declared.fault.FileFault.{FileFault}
 use Rattle.over_tables.specs.declared.opening.Wanted.{Wanted}
 use Rattle.over_tables.specs.declared.opening.Wanted.TheVariants.{Any, Ours}
 use Rattle.store_files.specs.Files.{IsNotTaken, MayHaveCommits, OverFiles, RunsOver}
-use Rattle.store_files.specs.declared.file.Found.{Found}
+use Rattle.store_files.specs.declared.file.FileState.{FileState}
 use Rattle.subcommands.specs.Joins.{wanted_of}
 use Rattle.subcommands.specs.Runs.{Runs, product_of}
 use Rattle.subcommands.specs.declared.end.End.{End}
@@ -25,7 +25,7 @@ use Rattle.persod.specs.declared.tasks.ServeTask.{ServeTask}
 
 -- A task ran, or the file was refused.
 pub ends_over :
-    {D : Type 0} (g : Ghosts D) (image : Image) (IsFresh : Bool → D → Type 0) (wanted : Wanted) (Ran : Found → State → ((State → Type 0 → (StoreFault → Type 0) → Type 0) → Type 0) → End → Type 0) (taken : Result End FileFault) (end : End)
+    {D : Type 0} (g : Ghosts D) (image : Image) (IsFresh : Bool → D → Type 0) (wanted : Wanted) (Ran : FileState → State → ((State → Type 0 → (StoreFault → Type 0) → Type 0) → Type 0) → End → Type 0) (taken : Result End FileFault) (end : End)
     → end ≡ end_of_taken taken → IfOk taken (λ done. OverFiles g image (λ conn. RunsOver conn (MayHaveCommits image) wanted Ran done)) → IfErr taken (IsNotTaken g image IsFresh wanted)
     → EndsOver g image IsFresh wanted Ran end
 ends_over g image IsFresh wanted Ran (Ok ended) end is ran refused =

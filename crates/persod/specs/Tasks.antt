@@ -35,7 +35,7 @@ use Rattle.over_tables.specs.declared.fault.FileFault.{FileFault}
 use Rattle.over_tables.specs.declared.opening.Wanted.{Wanted}
 use Rattle.over_tables.specs.declared.opening.Wanted.TheVariants.{Any, Ours}
 use Rattle.store_files.specs.Files.{IsAbsent, IsNotBegun, IsNotTaken, MayHaveCommits, OverFiles, RunsOver}
-use Rattle.store_files.specs.declared.file.Found.{Found}
+use Rattle.store_files.specs.declared.file.FileState.{FileState}
 use Rattle.file_runs.specs.Files.{HoldRuns, IsLeftBy, IsLeftByCrash}
 use Rattle.file_runs.specs.Runs.{StartsAfterRuns}
 use Rattle.subcommands.specs.Ends.{end_of_account, end_of_file, end_of_serve_stop, end_of_words, exit_of}
@@ -60,11 +60,11 @@ end_of_serve (Ok u) = Done
 end_of_serve (Err stop) = end_of_serve_stop stop
 
 -- The event line about the database file has the path of the task, and says how the file was found.
-abbrev pub IsOpening : ServeTask → Found → Opened → Type 0
+abbrev pub IsOpening : ServeTask → FileState → Opened → Type 0
 IsOpening task found opened = (opened.path.now ≡ task.path.now) × (opened.is_new ≡ found.is_new) × (opened.has_log ≡ found.has_log) × (opened.older ≡ found.older)
 
 -- Connections were served over the store, and the store was closed.
-pub record ServesFile (task : ServeTask) (found : Found) (old last : State) (whole : Type 0) (Unclosed : StoreFault → Type 0) (end : End) : Type 0 where
+pub record ServesFile (task : ServeTask) (found : FileState) (old last : State) (whole : Type 0) (Unclosed : StoreFault → Type 0) (end : End) : Type 0 where
   pub opened : Opened
   pub exchanges : List Exchange
   pub result : Result (Unit {0}) ServeStop
@@ -82,7 +82,7 @@ pub record LacksPort (task : ServeTask) (old last : State) (whole : Type 0) (Unc
   pub notes : NotesAll task.level None None (unstarted_line why task.port ∷ [])
   pub ends : EndsClosed whole Unclosed (end_of_port why) end
 
-abbrev pub Serves : ServeTask → Found → State → ((State → Type 0 → (StoreFault → Type 0) → Type 0) → Type 0) → End → Type 0
+abbrev pub Serves : ServeTask → FileState → State → ((State → Type 0 → (StoreFault → Type 0) → Type 0) → Type 0) → End → Type 0
 Serves task found old at_end end = at_end (λ last whole Unclosed. ServesFile task found old last whole Unclosed end ⊎ LacksPort task old last whole Unclosed end)
 
 -- ---- `report`
@@ -100,7 +100,7 @@ pub record ReportsFile (task : ReportTask) (old last : State) (whole : Type 0) (
   pub faults : CountsFaults old last (store_answer result)
   pub ends : EndsClosed whole Unclosed (end_of_report result) end
 
-abbrev pub ReportsBatch : ReportTask → Found → State → ((State → Type 0 → (StoreFault → Type 0) → Type 0) → Type 0) → End → Type 0
+abbrev pub ReportsBatch : ReportTask → FileState → State → ((State → Type 0 → (StoreFault → Type 0) → Type 0) → Type 0) → End → Type 0
 ReportsBatch task found old at_end end = at_end (λ last whole Unclosed. ReportsFile task old last whole Unclosed end)
 
 -- ---- a run over a database file
@@ -112,14 +112,14 @@ end_of_taken (Err fault) = end_of_file fault
 
 -- The task with the relation `Ran` ran over the store in the files, and has the end `end`. Or no
 -- task ran, and `end` is the end for the fault that says why.
-pub record EndsOver {D : Type 0} (g : Ghosts D) (image : Image) (IsFresh : Bool → D → Type 0) (wanted : Wanted) (Ran : Found → State → ((State → Type 0 → (StoreFault → Type 0) → Type 0) → Type 0) → End → Type 0) (end : End) : Type 0 where
+pub record EndsOver {D : Type 0} (g : Ghosts D) (image : Image) (IsFresh : Bool → D → Type 0) (wanted : Wanted) (Ran : FileState → State → ((State → Type 0 → (StoreFault → Type 0) → Type 0) → Type 0) → End → Type 0) (end : End) : Type 0 where
   pub how : OverFiles g image (λ conn. RunsOver conn (MayHaveCommits image) wanted Ran end)
       ⊎ ((fault : FileFault) × (end ≡ end_of_file fault) × IsNotTaken g image IsFresh wanted fault)
 
 -- ---- runs of a server, one after another
 
 -- the connections that were served; none if the server couldn't listen
-abbrev pub exchanges_of : {task : ServeTask} {found : Found} {old last : State} {whole : Type 0} {Unclosed : StoreFault → Type 0} {end : End}
+abbrev pub exchanges_of : {task : ServeTask} {found : FileState} {old last : State} {whole : Type 0} {Unclosed : StoreFault → Type 0} {end : End}
     → ServesFile task found old last whole Unclosed end ⊎ LacksPort task old last whole Unclosed end → List Exchange
 exchanges_of (inl serves) = serves.exchanges
 exchanges_of (inr lacks) = []

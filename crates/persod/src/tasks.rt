@@ -16,7 +16,7 @@ use sqlite_disk::Disk;
 use std::alloc::Global;
 use std::io::{self, Write};
 use store_data::Name;
-use store_files::{Found, StoreTask};
+use store_files::{FileState, StoreTask};
 use subcommands::{End, end_of_close, note_unstarted, run_feed};
 
 /// A size in bytes just under 32 MiB, with space for the headers of glibc and of the allocator. If
@@ -53,7 +53,7 @@ impl StoreTask for ServeTask<'_> {
 
     ghost ran = { Serves };
 
-    fn perform<D: Disk + Drop>(self, store: SqlStore<FileStore<D>>, found: Found) -> End {
+    fn perform<D: Disk + Drop>(self, store: SqlStore<FileStore<D>>, found: FileState) -> End {
         let ServeTask {
             rt,
             path,
@@ -108,7 +108,7 @@ impl StoreTask for ReportTask<'_> {
 
     ghost ran = { ReportsBatch };
 
-    fn perform<D: Disk + Drop>(self, store: SqlStore<FileStore<D>>, _found: Found) -> End {
+    fn perform<D: Disk + Drop>(self, store: SqlStore<FileStore<D>>, _found: FileState) -> End {
         let ReportTask { rt, batch } = self;
         let mut store = store;
         let end = match close_report(rt.alloc(), &mut store, &batch, &mut io::writer(rt)) {

@@ -12,9 +12,9 @@ use Rattle.sqlite_catalog.specs.Listing.{IsDefined, IsIndexRow}
 use Rattle.sqlite_rules.specs.Lists.{Has}
 use Rattle.sqlite_schema.specs.Names.{same_name}
 use Rattle.sqlite_schema.specs.declared.schema.Index.{Index}
-use Rattle.sql_tables.specs.Alike.{HasJust, IsOneOf}
+use Rattle.sql_tables.specs.Alike.{HasExactly, IsOneOf}
 use Rattle.sql_tables.specs.Finds.{Finds}
-use Rattle.sql_tables.specs.Ours.{AreThere, Stands}
+use Rattle.sql_tables.specs.Ours.{AreThere, HasTable}
 use Rattle.sql_tables.proofs.Standing.{IsAs, as_one, each_one, first_of, holds_of, ours_in, same_number}
 use Rattle.remaking.proofs.Emptied.{Stand, acts, all_apart, differ, is_among, numbers}
 
@@ -37,10 +37,10 @@ module _ (s : Schema) where
 
   -- A table that is equal to one of these tables, except for its tree number, has the tree number
   -- of that table.
-  numbered_as : (ts : List Table) (all : AreThere s ts) (done : List Table) (u t : Table) → Has ts t → ((x : Stands s t) → u.tree ≡ x.number) → is_among (numbers (gathered ts all done)) u.tree ≡ true
+  numbered_as : (ts : List Table) (all : AreThere s ts) (done : List Table) (u t : Table) → Has ts t → ((x : HasTable s t) → u.tree ≡ x.number) → is_among (numbers (gathered ts all done)) u.tree ≡ true
   numbered_as [] all done u t has is = absurd has
   numbered_as (x ∷ ts) all done u t (inl same) is =
-      let n : u.tree ≡ all.0.number = subst (λ (y : Table). ((z : Stands s y) → u.tree ≡ z.number)) same is all.0 in
+      let n : u.tree ≡ all.0.number = subst (λ (y : Table). ((z : HasTable s y) → u.tree ≡ z.number)) same is all.0 in
       still_among ts all.1 _ u.tree (subst (λ m. (u.tree == m) || is_among (numbers done) u.tree ≡ true) n (ap (λ b. b || is_among (numbers done) u.tree) (same_number u.tree)))
   numbered_as (x ∷ ts) all done u t (inr more) is = numbered_as ts all.1 _ u t more is
 
@@ -70,7 +70,7 @@ all_owned keys ts among (r ∷ rows) (i ∷ is) all =
 
 -- ---- all tables
 
-module _ (db : Database) (ours : Schema) (sound : IsDatabase db) (just : HasJust db.schema ours) (idle : AllByRecursion (λ t. acts t ≡ false) ours.tables) where
+module _ (db : Database) (ours : Schema) (sound : IsDatabase db) (just : HasExactly db.schema ours) (idle : AllByRecursion (λ t. acts t ≡ false) ours.tables) where
   abbrev there : AreThere db.schema ours.tables
   there = ours_in db ours sound just
 

@@ -20,23 +20,23 @@ above_list c arrivals =
 
 module _ {S : Type 0} (state : S → State) (sound : (s : S) (c : Contents) → (state s).holds c → AreSound c) (alike : AreAnsweredAlike) (c : Contents) (fine : AreSound c) where
   -- a store is opened with the contents after the arrivals `earlier`
-  abbrev pub Stands : S → List Arrived → Type 0
-  Stands s earlier = (d : Contents) × OpensWith (state s) d × AreSame d (contents_after c earlier)
+  abbrev pub Reaches : S → List Arrived → Type 0
+  Reaches s earlier = (d : Contents) × OpensWith (state s) d × AreSame d (contents_after c earlier)
 
   -- a store is opened with the contents after `earlier` and after the arrivals of a run that took
   -- effect
-  abbrev pub StandsBehind : S → List Arrived → List Tried → Type 0
-  StandsBehind s earlier tried = (own : List Arrived) × TookEffect tried own × Stands s (earlier ++ own)
+  abbrev pub ReachesBehind : S → List Arrived → List Tried → Type 0
+  ReachesBehind s earlier tried = (own : List Arrived) × TookEffect tried own × Reaches s (earlier ++ own)
 
-  run_leaves : (earlier : List Arrived) (s last next : S) (tried : List Tried) → Stands s earlier → Leaves (state s) (state last) tried → IsHonest (state last) → OpensAfter (state last) (state next)
-      → StandsBehind next earlier tried
+  run_leaves : (earlier : List Arrived) (s last next : S) (tried : List Tried) → Reaches s earlier → Leaves (state s) (state last) tried → IsHonest (state last) → OpensAfter (state last) (state next)
+      → ReachesBehind next earlier tried
   run_leaves earlier s last next tried (d, opens, same) leaves honest (e, left, again) =
       let before = contents_after c earlier in
       let now = contents_after d (decided tried) in
       let wanted = contents_after before (decided tried) in
       let both : AreSame now wanted = leaves.alike honest d before opens.holds (above_list c earlier) same in
       let joined : contents_after c (earlier ++ decided tried) ≡ wanted = contents_after-append c earlier (decided tried) fine.above in
-      let by_decided : AreSame e now → StandsBehind next earlier tried =
+      let by_decided : AreSame e now → ReachesBehind next earlier tried =
       λ is. (decided tried, inl refl, (e, again, subst (AreSame e) (sym joined) (AreSame-trans e now wanted is both))) in
       elim (leaves.crash honest d (Some e) opens.holds left) [
         | inl found ↦ by_decided found
@@ -55,15 +55,15 @@ module _ {S : Type 0} (state : S → State) (sound : (s : S) (c : Contents) → 
         ]
       ]
 
-  abbrev pub StandsAfter : S → List Arrived → List (Run S) → Type 0
-  StandsAfter last earlier runs = (took : List Arrived) × TookInTurn runs took × Stands last (earlier ++ took)
+  abbrev pub ReachesAfter : S → List Arrived → List (Run S) → Type 0
+  ReachesAfter last earlier runs = (took : List Arrived) × TookInTurn runs took × Reaches last (earlier ++ took)
 
-  runs_leave : (earlier : List Arrived) (first last : S) (runs : List (Run S)) → Stands first earlier → AreRuns state first runs last → StandsAfter last earlier runs
-  runs_leave earlier first last [] stands same = ([], refl, subst (λ s. Stands s (earlier ++ [])) same (subst (Stands first) (sym (append-nil earlier)) stands))
+  runs_leave : (earlier : List Arrived) (first last : S) (runs : List (Run S)) → Reaches first earlier → AreRuns state first runs last → ReachesAfter last earlier runs
+  runs_leave earlier first last [] stands same = ([], refl, subst (λ s. Reaches s (earlier ++ [])) same (subst (Reaches first) (sym (append-nil earlier)) stands))
   runs_leave earlier first last (r ∷ runs) stands (leaves, honest, opened) =
       let one = run_leaves earlier first r.last opened.0 r.tried stands leaves honest opened.1 in
       let more = runs_leave (earlier ++ one.0) opened.0 last runs one.2 opened.2 in
-      (one.0 ++ more.0, (one.0, more.0, one.1, more.1, refl), subst (Stands last) (append_assoc earlier one.0 more.0) more.2)
+      (one.0 ++ more.0, (one.0, more.0, one.1, more.1, refl), subst (Reaches last) (append_assoc earlier one.0 more.0) more.2)
 
-  pub left_by_runs : (first last : S) (runs : List (Run S)) → OpensWith (state first) c → AreRuns state first runs last → StandsAfter last [] runs
+  pub left_by_runs : (first last : S) (runs : List (Run S)) → OpensWith (state first) c → AreRuns state first runs last → ReachesAfter last [] runs
   left_by_runs first last runs opens are = runs_leave [] first last runs (c, opens, subst (AreSame c) (sym (same_contents c fine.above)) (AreSame-refl c)) are

@@ -43,18 +43,18 @@ answered old new c a k sound opens handles honest = record {
 
 module _ {S : Type 0} (state : S → State) (sound : (s : S) (c : Contents) → (state s).holds c → AreSound c) (alike : AreAnsweredAlike) (c : Contents) (fine : AreSound c) where
   -- a store is opened with the contents after the arrivals `earlier`
-  abbrev pub Stands : S → List Arrived → Type 0
-  Stands s earlier = (d : Contents) × OpensWith (state s) d × AreSame d (contents_after c earlier)
+  abbrev pub Reaches : S → List Arrived → Type 0
+  Reaches s earlier = (d : Contents) × OpensWith (state s) d × AreSame d (contents_after c earlier)
 
   one_more : (earlier : List Arrived) (d : Contents) (a : Arrived) → AreSound d → AreSame d (contents_after c earlier) → AreSame (contents_after d (a ∷ [])) (contents_after c (earlier ++ a ∷ []))
   one_more earlier d a good same =
       subst (AreSame (contents_after d (a ∷ []))) (sym (contents_after-append c earlier (a ∷ []) fine.above)) (alike d (contents_after c earlier) a good same).1
 
   -- the arrival is decided, or the server crashed during it
-  abbrev pub StandsBehind : S → List Arrived → Arrived → Bool → Type 0
-  StandsBehind s earlier a stops = Stands s (earlier ++ a ∷ []) ⊎ ((stops ≡ true) × Stands s earlier)
+  abbrev pub ReachesBehind : S → List Arrived → Arrived → Bool → Type 0
+  ReachesBehind s earlier a stops = Reaches s (earlier ++ a ∷ []) ⊎ ((stops ≡ true) × Reaches s earlier)
 
-  behind : (earlier : List Arrived) (s : S) (a : Arrived) (stops : Bool) (next : S) → Stands s earlier → Goes state s a stops next → StandsBehind next earlier a stops
+  behind : (earlier : List Arrived) (s : S) (a : Arrived) (stops : Bool) (next : S) → Reaches s earlier → Goes state s a stops next → ReachesBehind next earlier a stops
   behind earlier s a false next (d, opens, same) (k, handles, honest) =
       let good = sound s d opens.holds in
       inl (contents_after d (a ∷ []), answered (state s) (state next) d a k good opens handles honest, one_more earlier d a good same)
@@ -65,19 +65,19 @@ module _ {S : Type 0} (state : S → State) (sound : (s : S) (c : Contents) → 
         | inr decided ↦ inl (again.0, again.1, AreSame-trans again.0 (contents_after d (a ∷ [])) (contents_after c (earlier ++ a ∷ [])) decided (one_more earlier d a (sound s d opens.holds) same))
       ]
 
-  abbrev pub StandsAfter : S → List Arrived → List (Step S) → Type 0
-  StandsAfter last earlier steps = (decided : List Arrived) × AreDecidedIn steps decided × Stands last (earlier ++ decided)
+  abbrev pub ReachesAfter : S → List Arrived → List (Step S) → Type 0
+  ReachesAfter last earlier steps = (decided : List Arrived) × AreDecidedIn steps decided × Reaches last (earlier ++ decided)
 
-  steps_leave : (earlier : List Arrived) (s last : S) (steps : List (Step S)) → Stands s earlier → AreSteps state s steps last → StandsAfter last earlier steps
-  steps_leave earlier s last [] stands same = ([], refl, subst (λ s. Stands s (earlier ++ [])) same (subst (Stands s) (sym (append-nil earlier)) stands))
+  steps_leave : (earlier : List Arrived) (s last : S) (steps : List (Step S)) → Reaches s earlier → AreSteps state s steps last → ReachesAfter last earlier steps
+  steps_leave earlier s last [] stands same = ([], refl, subst (λ s. Reaches s (earlier ++ [])) same (subst (Reaches s) (sym (append-nil earlier)) stands))
   steps_leave earlier s last (t ∷ steps) stands (goes, rest) = elim (behind earlier s t.arrival t.stops t.store stands goes) [
     | inl decided ↦
         let more = steps_leave (earlier ++ t.arrival ∷ []) t.store last steps decided rest in
-        (t.arrival ∷ more.0, (more.0, more.1, inl refl), subst (Stands last) (append_assoc earlier (t.arrival ∷ []) more.0) more.2)
+        (t.arrival ∷ more.0, (more.0, more.1, inl refl), subst (Reaches last) (append_assoc earlier (t.arrival ∷ []) more.0) more.2)
     | inr undecided ↦
         let more = steps_leave earlier t.store last steps undecided.1 rest in
         (more.0, (more.0, more.1, inr (undecided.0, refl)), more.2)
   ]
 
-  pub left_with_stops : (first last : S) (steps : List (Step S)) → OpensWith (state first) c → AreSteps state first steps last → StandsAfter last [] steps
+  pub left_with_stops : (first last : S) (steps : List (Step S)) → OpensWith (state first) c → AreSteps state first steps last → ReachesAfter last [] steps
   left_with_stops first last steps opens are = steps_leave [] first last steps (c, opens, subst (AreSame c) (sym (same_contents c fine.above)) (AreSame-refl c)) are

@@ -13,9 +13,9 @@ use Rattle.sql_rows.specs.Image.{IsImage}
 use Rattle.sql_rows.proofs.SameRows.{same_rows}
 use Rattle.table_reads.specs.Holding.{HoldsRows, HoldsSoundRows}
 use Rattle.adoption.specs.Adopts.{Adopts}
-use Rattle.adoption.specs.Comes.{Comes}
+use Rattle.adoption.specs.EndsCommitted.{EndsCommitted}
 use Rattle.schema.specs.Begun.{WasHeld}
-use Rattle.schema.specs.Link.{Stands, link}
+use Rattle.schema.specs.Link.{FindsAtOpen, link}
 use Rattle.schema.proofs.Link.{RowsLaw, found, has_image, image_had, shown_at}
 
 -- A database has the rows of only one image.
@@ -30,17 +30,17 @@ OrderLaw = (v : Version) (t u : Tables) (db : Database) → HaveSameRows t u →
 image_of : OneLaw → (v : Version) (c : Contents) (old new : Database) → HoldsRows v (image c) old → Adopts old new → IsImage (image c) new
 image_of one v c old new held made = same_rows (image c) (image made.contents) new (one v made.version (image c) (image made.contents) old held made.held) made.stands
 
-pub held_before : (old new : State) → Comes Adopts old new → (v : Version) × HoldsSoundRows v old.now
+pub held_before : (old new : State) → EndsCommitted Adopts old new → (v : Version) × HoldsSoundRows v old.now
 held_before old new comes = let made = comes.made in (made.version, (made.contents, made.sound, made.held))
 
-pub holds_them : OneLaw → (old new : State) → Comes Adopts old new → (v : Version) (c : Contents) → AreSound c → HoldsRows v (image c) old.now → (link new 0 0).holds c
+pub holds_them : OneLaw → (old new : State) → EndsCommitted Adopts old new → (v : Version) (c : Contents) → AreSound c → HoldsRows v (image c) old.now → (link new 0 0).holds c
 holds_them one old new comes v c sound held = (sound, λ live. subst (IsImage (image c)) (sym (comes.shown live)) (image_of one v c old.now comes.db held comes.made))
 
-pub leaves_them : RowsLaw → OneLaw → (old new : State) → Comes Adopts old new → (v : Version) (c : Contents) (d : Option Contents) → AreSound c → HoldsRows v (image c) old.now → (link new 0 0).may_leave d → IsFound d c
+pub leaves_them : RowsLaw → OneLaw → (old new : State) → EndsCommitted Adopts old new → (v : Version) (c : Contents) (d : Option Contents) → AreSound c → HoldsRows v (image c) old.now → (link new 0 0).may_leave d → IsFound d c
 leaves_them law one old new comes v c d sound held left =
     found law c sound comes.db (image_of one v c old.now comes.db held comes.made) left.0 (comes.only left.0 left.1) d left.2
 
-was_held : OrderLaw → (old db : Database) → Adopts old db → (trees : Trees) → trees ≡ db.trees → (d : Option Contents) → Stands d trees → WasHeld d old
+was_held : OrderLaw → (old db : Database) → Adopts old db → (trees : Trees) → trees ≡ db.trees → (d : Option Contents) → FindsAtOpen d trees → WasHeld d old
 was_held order old db made trees is None at =
     absurd (shown_at None db trees made.stands.is_database is at made.contents made.sound (image_had made.contents db made.stands))
 was_held order old db made trees is (Some d) at =

@@ -22,12 +22,12 @@ use Rattle.table_reads.specs.Holding.{HoldsRows, HoldsSoundRows, IsOfVersion, nu
 use Rattle.examination.specs.declared.damage.Damage.{Damage}
 use Rattle.examination.specs.declared.difference.Difference.{Difference}
 use Rattle.adoption.specs.Adopts.{Adopts}
-use Rattle.adoption.specs.Comes.{Comes}
+use Rattle.adoption.specs.EndsCommitted.{EndsCommitted}
 use Rattle.adoption.specs.declared.faults.OpenFault.{OpenFault}
 use Rattle.adoption.specs.declared.faults.OpenFault.TheVariants as fault
 use Rattle.schema.specs.Begun.{WasHeld}
 use Rattle.schema.specs.Left.{HasEither, IsRefusal, TakesAt}
-use Rattle.schema.specs.Link.{Has, Stands, link}
+use Rattle.schema.specs.Link.{FindsAtOpen, Has, link}
 use Rattle.schema.proofs.Adopting.{OneLaw, OrderLaw, holds_them, leaves_them, left_late}
 use Rattle.schema.proofs.Link.{RowsLaw, Shows, has_there, shown_at}
 
@@ -52,7 +52,7 @@ module _ (law : RowsLaw) (one : OneLaw) (v : Version) (c : Contents) (sound : Ar
   shows_one None none = absurd (none c sound (inl (v, held)))
   shows_one (Some d) shown = has_one d shown.0 shown.1
 
-  was_one : (d : Option Contents) (trees : Trees) → Stands d trees → WasHeld d db → IsFound d c
+  was_one : (d : Option Contents) (trees : Trees) → FindsAtOpen d trees → WasHeld d db → IsFound d c
   was_one None trees at was = absurd was
   was_one (Some d) trees at was = has_one d at.0 (inl was)
 
@@ -67,7 +67,7 @@ module _ (db : Database) (empty : db.schema ≡ no_schema) where
 
 -- ---- databases that are opened, and databases that are refused
 
-pub adopted_at : RowsLaw → OneLaw → (old new : State) → IsLive old → Comes Adopts old new → TakesAt old.now.trees (link new 0 0)
+pub adopted_at : RowsLaw → OneLaw → (old new : State) → IsLive old → EndsCommitted Adopts old new → TakesAt old.now.trees (link new 0 0)
 adopted_at rows one old new live comes =
     let made = comes.made in (
       made.contents,
@@ -84,7 +84,7 @@ created_at old new live is_open empty opens =
 
 -- a database that is refused, and isn't empty, has no sound contents
 pub none_at : (old : State) (e : OpenFault) → IsLive old → IsTrue old.is_open → e ≢ fault.NotEmpty → ((d : Difference) → e ≡ fault.NotOurs d → (v : Version) → ¬ IsOfVersion v old.now)
-    → ((d : Damage) → e ≡ fault.Damaged d → (v : Version) → ¬ HoldsSoundRows v old.now) → IsRefusal e → old.now.schema ≢ no_schema → Stands None old.now.trees
+    → ((d : Damage) → e ≡ fault.Damaged d → (v : Version) → ¬ HoldsSoundRows v old.now) → IsRefusal e → old.now.schema ≢ no_schema → FindsAtOpen None old.now.trees
 none_at old fault.NotEmpty live is_open existing not_ours damaged is some = absurd (existing refl)
 none_at old (fault.NotOurs d) live is_open existing not_ours damaged is some =
     λ c sound at. elim (has_there old.now old.now.trees c (live is_open).0 refl at) [ inl h ↦ not_ours d refl h.0 (h.1.just, h.1.version) | inr e ↦ some e.0 ]
@@ -107,10 +107,10 @@ module _ {S : Type 0} (g : Ghosts S) (law : (s : S) (db : Trees) → IsTrue (g.v
   shown : (d : Option Contents) → (link (state g old) 0 0).may_leave d → Shows d (state g old).now
   shown d left = shown_at d (state g old).now left.0 (live is_open).0 (left_shown left.0 left.1) left.2
 
-  stands_at : (c : Contents) → AreSound c → Has (state g old).now c → Stands (Some c) (state g old).now.trees
+  stands_at : (c : Contents) → AreSound c → Has (state g old).now c → FindsAtOpen (Some c) (state g old).now.trees
   stands_at c sound has = (sound, record { db = (state g old).now; is_database = (live is_open).0; stands = refl; has = has })
 
-  stands_held : (d : Option Contents) (trees : Trees) → Stands d trees → WasHeld d (state g old).now → Stands d (state g old).now.trees
+  stands_held : (d : Option Contents) (trees : Trees) → FindsAtOpen d trees → WasHeld d (state g old).now → FindsAtOpen d (state g old).now.trees
   stands_held None trees at was = absurd was
   stands_held (Some c) trees at was = stands_at c at.0 (inl was)
 
@@ -130,7 +130,7 @@ module _ {S : Type 0} (g : Ghosts S) (law : (s : S) (db : Trees) → IsTrue (g.v
   module _ (new : State) (before after : Contents) (either : HasEither (state g old).now.trees before after) where
     pub either_adopt : ((d : Option Contents) → (link new 0 0).may_leave d → (link (state g old) 0 0).may_leave d ⊎ WasHeld d (state g old).now) → FindsEither (link new 0 0).may_leave before after
     either_adopt late d left = elim (late d left) [
-      | inl may ↦ either d (subst (Stands d) (left_shown may.0 may.1) may.2)
+      | inl may ↦ either d (subst (FindsAtOpen d) (left_shown may.0 may.1) may.2)
       | inr was ↦ either d (stands_held d left.0 left.2 was)
     ]
 
@@ -146,7 +146,7 @@ module _ (trees : Trees) (before after : Contents) (either : HasEither trees bef
   pub either_taken : (store : job.State) → TakesAt trees store → OpensWithEither store before after
   either_taken store takes = (takes.0, takes.2, either (Some takes.0) takes.1)
 
-  pub never_none : ¬ Stands None trees
+  pub never_none : ¬ FindsAtOpen None trees
   never_none none = elim (either None none) [ inl found ↦ found | inr found ↦ found ]
 
 no_refusal : (e : OpenFault) → e ≢ fault.NotEmpty → ((d : Difference) → e ≢ fault.NotOurs d) → ((d : Damage) → e ≢ fault.Damaged d) → ¬ IsRefusal e
@@ -171,7 +171,7 @@ module _ {X Y : Type 0} (opened : State) where
   created_over Clean (Err e) empty full ours whole = λ clean is_open before after either. no_refusal e.1 (λ same. full same empty) ours whole
 
   pub adopted_over : (Clean : Y × OpenFault → Type 0) (r : Result X (Y × OpenFault)) → opened.now.schema ≢ no_schema
-      → IfErr r (λ e. Clean e → IsTrue opened.is_open → IsRefusal e.1 → opened.now.schema ≢ no_schema → Stands None opened.now.trees) → NeverRefused Clean r
+      → IfErr r (λ e. Clean e → IsTrue opened.is_open → IsRefusal e.1 → opened.now.schema ≢ no_schema → FindsAtOpen None opened.now.trees) → NeverRefused Clean r
   adopted_over Clean (Ok x) some refuses = tt
   adopted_over Clean (Err e) some refuses = λ clean is_open before after either refusal. never_none opened.now.trees before after either (refuses clean is_open refusal some)
 

@@ -19,8 +19,8 @@ use Rattle.sql_tables.specs.declared.versions.Version.TheVariants.{Three}
 use Rattle.table_reads.proofs.OneHeld.{one_held}
 use Rattle.table_reads.proofs.OurImage.{our_image_held}
 use Rattle.store_reads.specs.ReadsContents.{ReadsContents}
-use Rattle.schema.specs.Link.{Has, HasAt, IsTranslated, Stands, link}
-use Rattle.schema.specs.Takes.{Takes}
+use Rattle.schema.specs.Link.{FindsAtOpen, Has, HasAt, IsTranslated, link}
+use Rattle.schema.specs.MovesContents.{MovesContents}
 
 -- ---- reads
 
@@ -65,7 +65,7 @@ Shows None db = (c : Contents) → AreSound c → ¬ Has db c
 Shows (Some c) db = AreSound c × Has db c
 
 -- the result of an open of the trees of a database
-pub shown_at : (d : Option Contents) (db : Database) (trees : Trees) → IsDatabase db → trees ≡ db.trees → Stands d trees → Shows d db
+pub shown_at : (d : Option Contents) (db : Database) (trees : Trees) → IsDatabase db → trees ≡ db.trees → FindsAtOpen d trees → Shows d db
 shown_at None db trees sound is none = λ c fine has. none c fine (record { db = db; is_database = sound; stands = sym is; has = has })
 shown_at (Some d) db trees sound is at = (at.0, has_there db trees d sound is at.1)
 
@@ -82,12 +82,12 @@ abbrev pub RowsLaw : Type 0
 RowsLaw = (c d : Contents) → AreSound c → AreSound d → HaveSameRows (image c) (image d) → AreSame c d
 
 -- an open of the trees of an image finds its contents
-pub found : RowsLaw → (c : Contents) → AreSound c → (db : Database) → IsImage (image c) db → (trees : Trees) → trees ≡ db.trees → (d : Option Contents) → Stands d trees → IsFound d c
+pub found : RowsLaw → (c : Contents) → AreSound c → (db : Database) → IsImage (image c) db → (trees : Trees) → trees ≡ db.trees → (d : Option Contents) → FindsAtOpen d trees → IsFound d c
 found law c sound db now trees is None at = absurd (shown_at None db trees now.is_database is at c sound (image_had c db now))
 found law c sound db now trees is (Some d) at = let shown = shown_at (Some d) db trees now.is_database is at in law d c shown.0 sound (has_image (image c) d db now shown.1)
 
 module _ (law : RowsLaw) (Owed : Contents → Type 0) (after : Contents → Contents) (sound : (c : Contents) → AreSound c → Owed c → AreSound (after c)) (old new : State) (a b m n : ℕ)
-    (survives : Survives old new (IsLeft (Takes Owed after) old)) where
+    (survives : Survives old new (IsLeft (MovesContents Owed after) old)) where
   left_by : HasCleanDisk new → (c : Contents) (d : Option Contents) → (link old a b).holds c → Owed c → (link new m n).may_leave d → (link old a b).may_leave d ⊎ IsFound d (after c)
   left_by honest c d held owed left =
       elim (survives.crash honest left.0 left.1) [
@@ -95,7 +95,7 @@ module _ (law : RowsLaw) (Owed : Contents → Type 0) (after : Contents → Cont
         | inr it ↦ inr (found law (after c) (sound c held.0 owed) it.1.0 (it.1.1 c held.0 owed (held.1 it.0)) left.0 it.1.2 d left.2)
       ]
 
-  pub commits : (HasCleanDisk new → Ends (Takes Owed after) old new) → Commits (link old a b) (link new m n) (Ok tt) Owed after
+  pub commits : (HasCleanDisk new → Ends (MovesContents Owed after) old new) → Commits (link old a b) (link new m n) (Ok tt) Owed after
   commits done = record {
     doubts = survives.clean;
     ok = λ honest c held owed. let k = done honest in (sound c held.0 owed, λ live. k.made c held.0 owed (held.1 k.was_open));
@@ -116,7 +116,7 @@ module _ (law : RowsLaw) (Owed : Contents → Type 0) (after : Contents → Cont
   }
 
   -- a success is a commit, and a fault leaves everything unchanged
-  pub translated_commits : (r : Result (Unit {0}) Error) (translated : Result (Unit {0}) StoreFault) → IsTranslated r translated → (HasCleanDisk new → OnOk r (Ends (Takes Owed after) old new))
+  pub translated_commits : (r : Result (Unit {0}) Error) (translated : Result (Unit {0}) StoreFault) → IsTranslated r translated → (HasCleanDisk new → OnOk r (Ends (MovesContents Owed after) old new))
       → (HasCleanDisk new → OnErr r (IsKept old new)) → Commits (link old a b) (link new m n) translated Owed after
   translated_commits (Ok u) translated is ok err = subst (λ t. Commits (link old a b) (link new m n) t Owed after) (sym is) (commits ok)
   translated_commits (Err e) (Ok u) is ok err = absurd (cc)

@@ -18,7 +18,7 @@ use Rattle.image_laws.specs.Image.{image}
 use Rattle.sql_base.specs.Ends.{Ends, IsKept, IsLeft}
 use Rattle.sql_rows.specs.Image.{IsImage, Moves}
 use Rattle.sql_rows.proofs.SameRows.{same_rows}
-use Rattle.schema.specs.Takes.{Takes}
+use Rattle.schema.specs.MovesContents.{MovesContents}
 
 -- adds one reply to both tables
 same_with_reply : (entry : Entry) (t u : Tables) → HaveSameRows t u → HaveSameRows (with_reply entry t) (with_reply entry u)
@@ -53,7 +53,7 @@ abbrev pub IsWritingIn : Change → Writing → Entry → Database → Type 0
 IsWritingIn change w entry db = (c : Contents) → AreSound c → IsOwed change entry c → IsImage (image c) db → IsWritingOf c.facts change w
 
 pub change_taken : ReplyLaw → ChangeLaw → (change : Change) (w : Writing) (entry : Entry) (a b : Database) → IsWritingIn change w entry a
-    → Moves (rows_written w entry) a b → Takes (IsOwed change entry) (λ c. committed c change entry) a b
+    → Moves (rows_written w entry) a b → MovesContents (IsOwed change entry) (λ c. committed c change entry) a b
 change_taken reply law change w entry a b has moves c sound owed holds =
     let next : Contents = record c { facts = changed c.facts change } in
     let rows = law c change w sound.facts owed.keeps (has c sound owed holds) in
@@ -61,7 +61,7 @@ change_taken reply law change w entry a b has moves c sound owed holds =
     (same_rows (with_reply entry (image next)) (rows_written w entry (image c)) b (same_with_reply entry _ _ rows) (moves (image c) holds))
 
 pub release_taken : ReleaseLaw → (upto : ℕ) (entry : Entry) (a b : Database) → Moves (rows_written (writing.Releases entry.client upto) entry) a b
-    → Takes (IsOwedRelease upto entry) (λ c. released c upto entry) a b
+    → MovesContents (IsOwedRelease upto entry) (λ c. released c upto entry) a b
 release_taken law upto entry a b moves c sound owed holds =
     same_rows (image (released c upto entry)) (rows_written (writing.Releases entry.client upto) entry (image c)) b (law c upto entry sound owed) (moves (image c) holds)
 
@@ -102,7 +102,7 @@ module _ (reply : ReplyLaw) (law : ChangeLaw) (change : Change) (w : Writing) (e
   Written = Moves (rows_written w entry)
 
   abbrev Taken : Database → Database → Type 0
-  Taken = Takes (IsOwed change entry) (λ c. committed c change entry)
+  Taken = MovesContents (IsOwed change entry) (λ c. committed c change entry)
 
   turns : HasCleanDisk mid → IsTrue mid.is_open → (b : Database) → Written old.now b → Taken old.now b
   turns clean live b = change_taken reply law change w entry old.now b (has clean live)

@@ -6,7 +6,7 @@ use Rattle.job_facts.specs.Reopening.{FindsEither, OpensWith}
 use Rattle.job_facts.specs.Store.{State}
 use Rattle.adoption.specs.declared.faults.OpenFault.{OpenFault}
 use Rattle.adoption.specs.declared.faults.OpenFault.TheVariants as fault
-use Rattle.schema.specs.Link.{Stands}
+use Rattle.schema.specs.Link.{FindsAtOpen}
 
 -- The fault is refusal 81 or 82.
 abbrev pub IsRefusal : OpenFault → Type 0
@@ -17,10 +17,10 @@ IsRefusal (fault.Store why) = ⊥
 
 -- The store is opened with contents that an open finds at `trees`.
 abbrev pub TakesAt : Trees → State → Type 0
-TakesAt trees store = (c : Contents) × Stands (Some c) trees × OpensWith store c
+TakesAt trees store = (c : Contents) × FindsAtOpen (Some c) trees × OpensWith store c
 
 -- An open of `trees` isn't refused, and finds the contents `before` or `after`. If these are the
 -- only contents that a crash may leave, then this is true of all trees that it may leave, by the
 -- definition of `link`.
 abbrev pub HasEither : Trees → Contents → Contents → Type 0
-HasEither trees before after = FindsEither (λ d. Stands d trees) before after
+HasEither trees before after = FindsEither (λ d. FindsAtOpen d trees) before after

@@ -1,6 +1,6 @@
 pub mod Link
 pub mod Left
-pub mod Takes
+pub mod MovesContents
 pub mod Stores
 pub mod Opening
 pub mod Begun

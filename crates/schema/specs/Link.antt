@@ -28,9 +28,9 @@ pub record HasAt (trees : Trees) (c : Contents) : Type 0 where
   pub has : Has db c
 
 -- An open of `trees` finds these sound contents, or is refused if the first argument is `None`.
-abbrev pub Stands : Option Contents → Trees → Type 0
-Stands None trees = (c : Contents) → AreSound c → ¬ HasAt trees c
-Stands (Some c) trees = AreSound c × HasAt trees c
+abbrev pub FindsAtOpen : Option Contents → Trees → Type 0
+FindsAtOpen None trees = (c : Contents) → AreSound c → ¬ HasAt trees c
+FindsAtOpen (Some c) trees = AreSound c × HasAt trees c
 
 -- The state of a store whose connection is in the state `s`. If a fault has closed the connection,
 -- the store represents any sound contents. The two counts are the store's own.
@@ -40,7 +40,7 @@ link s failed full = record {
   doubts = doubt s.is_clean;
   failed = failed;
   full = full;
-  may_leave = λ d. (trees : Trees) × s.may_leave trees × Stands d trees;
+  may_leave = λ d. (trees : Trees) × s.may_leave trees × FindsAtOpen d trees;
 }
 
 -- A success is returned unchanged, and an error is returned as its fault.

@@ -23,7 +23,7 @@ use Rattle.adoption.specs.declared.faults.OpenFault.TheVariants as fault
 use Rattle.schema.specs.declared.store.SqlStore.{SqlStore}
 use Rattle.schema.specs.Begun.{WasHeld}
 use Rattle.schema.specs.Left.{IsRefusal, TakesAt}
-use Rattle.schema.specs.Link.{Stands, link}
+use Rattle.schema.specs.Link.{FindsAtOpen, link}
 use Rattle.schema.specs.Stores.{connection, stands_for}
 
 -- A store is opened over the database `old`, or the database is refused or can't be opened.
@@ -54,7 +54,7 @@ pub record OpensExisting {S : Type 0} (g : Ghosts S) (old : Held S) (result : Re
   -- The database needn't be empty.
   pub existing : IfErr result (λ e. e.1 ≢ fault.NotEmpty)
   -- An open of a refused database finds no contents in it.
-  pub refuses : IfErr result (λ e. HasCleanDisk (state g e.0) → IsTrue (state g old).is_open → IsRefusal e.1 → (state g old).now.schema ≢ no_schema → Stands None (state g old).now.trees)
+  pub refuses : IfErr result (λ e. HasCleanDisk (state g e.0) → IsTrue (state g old).is_open → IsRefusal e.1 → (state g old).now.schema ≢ no_schema → FindsAtOpen None (state g old).now.trees)
   -- A fault of the store has a cause.
   pub cause : IfErr result (λ e. HasCleanDisk (state g e.0) → (own : StoreFault) → e.1 ≡ fault.Store own → IsCaused g (state g old) (state g e.0) own)
   -- ---- the database

@@ -7,7 +7,7 @@ ghost use Rattle.job_facts.specs.Contents.{committed, released};
 ghost use Rattle.sql_base.specs.Ends.{Ends, IsKept, IsLeft};
 ghost use Rattle.change_writes.specs.Writable.{IsWritable};
 ghost use Rattle.store_reads.specs.Known.{IsAllKnownIn, Knows};
-ghost use Rattle.schema.specs.Takes.{Takes};
+ghost use Rattle.schema.specs.MovesContents.{MovesContents};
 ghost use Rattle.table_rows.specs.After.{rows_written};
 ghost use Rattle.table_rows.specs.Kept.{kept_reply};
 ghost use Rattle.table_rows.specs.Tables.{Tables};
@@ -27,7 +27,7 @@ fn note_counters(known: &mut Known, writing: &Writing<'_>)
         → IsAllKnownIn (rows_written writing.now entry t) known.new }
 {
     if let Some((batch, totals)) = counters_after(writing) {
-        known.count(batch, &totals);
+        known.cache_counters(batch, &totals);
     }
 }
 
@@ -52,7 +52,7 @@ pub(crate) fn keep<S: Alter>(
     requires knows { Knows (state S.Store conn.old) known.old }
     ensures ok { let kept = kept_reply entry.now in
         HasCleanDisk (state S.Store conn.new) → OnOk result
-        (Ends (Takes (IsOwed change.now kept) (λ c. committed c change.now kept))
+        (Ends (MovesContents (IsOwed change.now kept) (λ c. committed c change.now kept))
         (state S.Store conn.old) (state S.Store conn.new)) }
     ensures err { HasCleanDisk (state S.Store conn.new)
         → OnErr result (IsKept (state S.Store conn.old) (state S.Store conn.new)) }
@@ -60,7 +60,7 @@ pub(crate) fn keep<S: Alter>(
     ensures idle { conn.new.in_transaction ≡ false }
     ensures crash { let kept = kept_reply entry.now in
         Survives (state S.Store conn.old) (state S.Store conn.new)
-        (IsLeft (Takes (IsOwed change.now kept) (λ c. committed c change.now kept))
+        (IsLeft (MovesContents (IsOwed change.now kept) (λ c. committed c change.now kept))
         (state S.Store conn.old)) }
 {
     image_laws::rows_after_change();
@@ -96,7 +96,7 @@ pub(crate) fn release<S: Alter>(
     requires knows { Knows (state S.Store conn.old) known.now }
     ensures ok { let kept = kept_reply entry.now in
         HasCleanDisk (state S.Store conn.new) → OnOk result
-        (Ends (Takes (IsOwedRelease upto kept) (λ c. released c upto kept))
+        (Ends (MovesContents (IsOwedRelease upto kept) (λ c. released c upto kept))
         (state S.Store conn.old) (state S.Store conn.new)) }
     ensures err { HasCleanDisk (state S.Store conn.new)
         → OnErr result (IsKept (state S.Store conn.old) (state S.Store conn.new)) }
@@ -104,7 +104,7 @@ pub(crate) fn release<S: Alter>(
     ensures idle { conn.new.in_transaction ≡ false }
     ensures crash { let kept = kept_reply entry.now in
         Survives (state S.Store conn.old) (state S.Store conn.new)
-        (IsLeft (Takes (IsOwedRelease upto kept) (λ c. released c upto kept))
+        (IsLeft (MovesContents (IsOwedRelease upto kept) (λ c. released c upto kept))
         (state S.Store conn.old)) }
 {
     image_laws::rows_after_release();

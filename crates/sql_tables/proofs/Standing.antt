@@ -13,9 +13,9 @@ use Rattle.sqlite_schema.specs.Names.{same_name, view_named}
 use Rattle.sqlite_catalog.specs.Listing.{IsTableRow}
 use Rattle.sqlite_catalog.proofs.StepLemmas.{same_itself}
 use Rattle.sql_tables.specs.Bare.{bare}
-use Rattle.sql_tables.specs.Alike.{AreAmong, HasJust, IsOneOf}
+use Rattle.sql_tables.specs.Alike.{AreAmong, HasExactly, IsOneOf}
 use Rattle.sql_tables.specs.Finds.{Finds}
-use Rattle.sql_tables.specs.Ours.{AreThere, Stands}
+use Rattle.sql_tables.specs.Ours.{AreThere, HasTable}
 
 -- ---- the first element with a key
 
@@ -90,7 +90,7 @@ module _ (db : Database) (sound : IsDatabase db) (trees : IsAscending (λ a b. (
     stored = no_view db.schema t.name none;
   }
 
-  stands : (t : Table) → IsOneOf db.schema.tables t → Stands db.schema t
+  stands : (t : Table) → IsOneOf db.schema.tables t → HasTable db.schema t
   stands t h =
       let x = as_one db.schema.tables t h in
       let same : x.other ≡ record t { tree = x.other.tree } = ap (λ (u : Table). let v : Table = record u { tree = x.other.tree } in v) (sym x.same) in
@@ -101,5 +101,5 @@ module _ (db : Database) (sound : IsDatabase db) (trees : IsAscending (λ a b. (
   all_stand (x ∷ xs) all = (stands x all.0, all_stand xs all.1)
 
 -- Every table of `ours` is found in a schema that has just these tables.
-pub ours_in : (db : Database) (ours : Schema) → IsDatabase db → HasJust db.schema ours → AreThere db.schema ours.tables
+pub ours_in : (db : Database) (ours : Schema) → IsDatabase db → HasExactly db.schema ours → AreThere db.schema ours.tables
 ours_in db ours sound h = all_stand db sound h.apart h.views ours.tables (each_one db.schema.tables ours.tables h.all)

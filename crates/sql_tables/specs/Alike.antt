@@ -34,7 +34,7 @@ HasNoFurtherKey indexes = All is_no_further_key indexes
 
 -- The schema `s` has exactly the tables of `ours`, in any order and with different tree numbers. It
 -- has no additional key, no view and no trigger.
-pub record HasJust (s ours : Schema) : Type 0 where
+pub record HasExactly (s ours : Schema) : Type 0 where
   pub each : AreAmong s.tables ours.tables
   pub all : AreAmong ours.tables s.tables
   pub apart : AreApart s.tables

@@ -6,10 +6,10 @@ use Rattle.sqlite.specs.Table.{Table}
 use Rattle.sql_tables.specs.Finds.{Finds}
 
 -- The schema `s` has the table `t` under some tree number.
-pub record Stands (s : Schema) (t : Table) : Type 0 where
+pub record HasTable (s : Schema) (t : Table) : Type 0 where
   pub number : ℕ
   pub finds : Finds s (record t { tree = number })
 
 -- The schema `s` has all these tables.
 abbrev pub AreThere : Schema → List Table → Type 0
-AreThere s tables = AllByRecursion (Stands s) tables
+AreThere s tables = AllByRecursion (HasTable s) tables

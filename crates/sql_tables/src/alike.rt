@@ -1,7 +1,7 @@
 //! Compares a schema with the tables of another, in any order and with any tree numbers.
 ghost use Rattle.std.specs.Prelude.{◌≡◌, ◌↔◌, IsTrue};
 ghost use Rattle.sqlite_catalog.specs.Change.{is_reserved};
-ghost use Rattle.sql_tables.specs.Alike.{AreAmong, AreApart, HasJust, HasNoFurtherKey, IsApart};
+ghost use Rattle.sql_tables.specs.Alike.{AreAmong, AreApart, HasExactly, HasNoFurtherKey, IsApart};
 ghost use Rattle.sql_tables.specs.Alike.{IsOneOf, is_no_further_key};
 
 use crate::parts::are_same_but_tree;
@@ -72,8 +72,8 @@ fn has_no_further_key(indexes: &[Index]) -> bool
 
 /// Returns `true` if `schema` has exactly the tables of `ours`, in any order. Additional indexes
 /// are accepted unless they are unique. A view or a trigger isn't accepted.
-pub fn has_just(schema: &Schema, ours: &Schema) -> bool
-    ensures { IsTrue result ↔ HasJust schema.now ours.now }
+pub fn has_exactly(schema: &Schema, ours: &Schema) -> bool
+    ensures { IsTrue result ↔ HasExactly schema.now ours.now }
 {
     are_among(schema.tables.as_slice(), ours.tables.as_slice())
         && are_among(ours.tables.as_slice(), schema.tables.as_slice())

@@ -11,7 +11,7 @@ mod terms;
 mod texts;
 mod versions;
 
-pub use alike::has_just;
+pub use alike::has_exactly;
 pub use each::{Runs, run_both, run_each};
 pub use opening::{make_all, make_tables};
 pub use parts::are_same_but_tree;

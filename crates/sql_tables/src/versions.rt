@@ -3,12 +3,12 @@ ghost use Rattle.std.specs.Prelude.{◌≡◌, ◌↔◌, false, IfErr, IfOk, If
 ghost use Rattle.std.specs.Prelude.{MatchOption, MatchResult};
 ghost use Rattle.sqlite.specs.Held.{state};
 ghost use Rattle.sqlite.specs.State.{is_disk_error};
-ghost use Rattle.sql_tables.specs.Alike.{HasJust};
+ghost use Rattle.sql_tables.specs.Alike.{HasExactly};
 ghost use Rattle.sql_tables.specs.Ours.{AreThere};
 ghost use Rattle.sql_tables.specs.Tables.{our_schema};
 ghost use Rattle.sql_tables.specs.Versions.{schema_of};
 
-use crate::alike::has_just;
+use crate::alike::has_exactly;
 use crate::opening::{has_our_tables, make_in_memory};
 use sqlite::{Alter, Connection, Error};
 use sqlite_schema::schema::Schema;
@@ -44,11 +44,11 @@ pub fn tables_of(alloc: Global, version: Version) -> Result<Schema, Error>
 // Returns `true` if the database has exactly the tables of `ours`. Each of them is then found by
 // its name.
 fn has_tables<S: Alter>(conn: &Connection<S>, ours: &Schema) -> bool
-    ensures exact { IsTrue result ↔ HasJust (state S.Store conn.now).now.schema ours.now }
+    ensures exact { IsTrue result ↔ HasExactly (state S.Store conn.now).now.schema ours.now }
     ensures there { IsTrue (state S.Store conn.now).is_open → IsTrue result
         → AreThere (state S.Store conn.now).now.schema ours.now.tables }
 {
-    has_just(conn.schema(), ours)
+    has_exactly(conn.schema(), ours)
 }
 
 fn has_version<S: Alter>(
@@ -57,7 +57,7 @@ fn has_version<S: Alter>(
     version: Version,
 ) -> Result<bool, Error>
     ensures exact { IfOk result (λ has. IsTrue has
-        ↔ HasJust (state S.Store conn.now).now.schema (schema_of version)) }
+        ↔ HasExactly (state S.Store conn.now).now.schema (schema_of version)) }
     ensures there { IsTrue (state S.Store conn.now).is_open → IfOk result (λ has. IsTrue has
         → AreThere (state S.Store conn.now).now.schema (schema_of version).tables) }
     ensures cause { IfErr result (λ e. is_disk_error e ≡ false) }
@@ -91,8 +91,8 @@ pub fn version_in<S: Alter>(
     conn: &Connection<S>,
 ) -> Result<Option<VersionMatch>, Error>
     ensures exact { IfOk result (λ found. MatchOption found
-        ((v : _) → ¬ HasJust (state S.Store conn.now).now.schema (schema_of v))
-        (λ m. HasJust (state S.Store conn.now).now.schema (schema_of m.version))) }
+        ((v : _) → ¬ HasExactly (state S.Store conn.now).now.schema (schema_of v))
+        (λ m. HasExactly (state S.Store conn.now).now.schema (schema_of m.version))) }
     ensures there { IsTrue (state S.Store conn.now).is_open → IfOk result (λ found. IfSome found
         (λ m. AreThere (state S.Store conn.now).now.schema (schema_of m.version).tables)) }
     ensures created { IfOk result (λ found. IfSome found

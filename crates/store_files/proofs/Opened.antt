@@ -21,7 +21,7 @@ use Rattle.wal_damage.specs.Damage.{lost_commits}
 use Rattle.over_tables.specs.declared.fault.FileFault.{FileFault}
 use Rattle.over_tables.specs.declared.opening.Wanted.{Wanted}
 use Rattle.store_files.specs.Files.{IsDamaged, MayHaveCommits, RunsOver}
-use Rattle.store_files.specs.declared.file.Found.{Found}
+use Rattle.store_files.specs.declared.file.FileState.{FileState}
 use Rattle.store_files.specs.Wal.{FailsInGiven, FailsToBegin, IsWholeWal, RefusesWal, opens_none}
 
 abbrev pub image : List ℕ → List ℕ → Image
@@ -81,7 +81,7 @@ long_in g held first examined reads same has_log long = subst (λ (i : Image). I
 
 -- A task that ran with one statement about the WAL ran with an equivalent statement.
 pub runs_with :
-    {D Done : Type 0} {g : Ghosts D} (conn : Held (FileStore D g)) (Was Is : Type 0) (wanted : Wanted) (Ran : Found → State → ((State → Type 0 → (StoreFault → Type 0) → Type 0) → Type 0) → Done → Type 0) (done : Done)
+    {D Done : Type 0} {g : Ghosts D} (conn : Held (FileStore D g)) (Was Is : Type 0) (wanted : Wanted) (Ran : FileState → State → ((State → Type 0 → (StoreFault → Type 0) → Type 0) → Type 0) → Done → Type 0) (done : Done)
     → (HasCleanDisk (file_state conn) → Was ↔ Is) → RunsOver conn Was wanted Ran done → RunsOver conn Is wanted Ran done
 runs_with conn Was Is wanted Ran done same run = record {
   found = run.found;

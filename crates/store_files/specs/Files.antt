@@ -26,7 +26,7 @@ use Rattle.over_tables.specs.declared.opening.Wanted.TheVariants.{Ours}
 use Rattle.store_files.specs.Ending.{AtEnd}
 use Rattle.store_files.specs.Unopened.{absent, of_opening}
 use Rattle.store_files.specs.Wal.{FailsToBegin, IsWholeWal, RefusesWal}
-use Rattle.store_files.specs.declared.file.Found.{Found}
+use Rattle.store_files.specs.declared.file.FileState.{FileState}
 use Rattle.store_files.specs.declared.place.Place.{Place}
 
 -- Only an existing store may be opened, and the fault says that the file doesn't exist.
@@ -42,8 +42,8 @@ module _ {D : Type 0} {g : Ghosts D} where
   -- `HasLog` says that the WAL was longer than after an ordinary exit. `Ran` is the relation of the
   -- task between the state in which the file was found, the state of the store, the end, and the
   -- result.
-  pub record RunsOver {Done : Type 0} (conn : Held (FileStore D g)) (HasLog : Type 0) (wanted : Wanted) (Ran : Found → State → ((State → Type 0 → (StoreFault → Type 0) → Type 0) → Type 0) → Done → Type 0) (done : Done) : Type 0 where
-    pub found : Found
+  pub record RunsOver {Done : Type 0} (conn : Held (FileStore D g)) (HasLog : Type 0) (wanted : Wanted) (Ran : FileState → State → ((State → Type 0 → (StoreFault → Type 0) → Type 0) → Type 0) → Done → Type 0) (done : Done) : Type 0 where
+    pub found : FileState
     pub store : SqlStore (FileStore D g) over_files
     pub is_new : IsTrue found.is_new ↔ tables.Begins wanted (file_state conn).now
     pub older : tables.IsOlder (file_state conn).now found.older

@@ -31,9 +31,9 @@ cannot_open place.Unclear = cause.CannotOpen
 
 -- the cause for a file that isn't a valid database: `NotSqlite` if it doesn't begin like a file
 -- that SQLite wrote, otherwise `other`
-abbrev pub unread : Cause → Place → Cause
-unread other (place.File false) = cause.NotSqlite
-unread other _ = other
+abbrev pub cause_of_invalid : Cause → Place → Cause
+cause_of_invalid other (place.File false) = cause.NotSqlite
+cause_of_invalid other _ = other
 
 -- the fault for an error of SQLite and the place of the file, where `Err` means that an allocation
 -- failed when the place was determined; only errors of memory and of the device aren't refusal 81
@@ -45,5 +45,5 @@ of_opening (SqliteFailure code.Closed) p = Storage
 of_opening (SqliteFailure code.DatabaseBusy) p = NotOurs cause.InUse
 of_opening _ (Err _) = Memory
 of_opening (SqliteFailure code.CannotOpen) (Ok p) = NotOurs (cannot_open p)
-of_opening (SqliteFailure code.DatabaseCorrupt) (Ok p) = NotOurs (unread cause.Corrupt p)
-of_opening _ (Ok p) = NotOurs (unread cause.Invalid p)
+of_opening (SqliteFailure code.DatabaseCorrupt) (Ok p) = NotOurs (cause_of_invalid cause.Corrupt p)
+of_opening _ (Ok p) = NotOurs (cause_of_invalid cause.Invalid p)

@@ -23,7 +23,7 @@ pub trait StoreTask {
     ghost use Rattle.job_facts.specs.declared.store.StoreFault.{StoreFault as Fault};
     ghost use Rattle.schema.specs.Stores.{stands_for};
     ghost use Rattle.store_files.specs.Ending.{AtEnd};
-    ghost use Rattle.store_files.specs.declared.file.Found.{Found as How};
+    ghost use Rattle.store_files.specs.declared.file.FileState.{FileState as How};
 
     /// The result of the task.
     type Done: Drop;
@@ -36,13 +36,13 @@ pub trait StoreTask {
         → ((State → Type 0 → (Fault → Type 0) → Type 0) → Type 0) → Self.Done → Type 0 };
 
     /// Performs the task with `store`, and closes the store.
-    fn perform<D: Disk + Drop>(self, store: SqlStore<FileStore<D>>, found: Found) -> Self::Done
+    fn perform<D: Disk + Drop>(self, store: SqlStore<FileStore<D>>, found: FileState) -> Self::Done
         ensures { ran self found (stands_for over_files store) (AtEnd D.Disk) result };
 }
 
 /// The state of a database file before a task.
 #[derive(Clone, Copy, Debug, PartialEq, Eq)]
-pub struct Found {
+pub struct FileState {
     /// `true` if the database was empty, so that a new store was created.
     pub is_new: bool,
     /// `true` if there was a WAL next to the file that was longer than after an ordinary exit, so
@@ -108,7 +108,7 @@ fn run_over<T: StoreTask + Drop, D: Disk + Drop>(
     match store_over(alloc, conn, wanted) {
         Ok(store) => Ok(task.perform(
             store,
-            Found {
+            FileState {
                 is_new,
                 has_log,
                 older,

@@ -110,7 +110,7 @@ fn is_suspect(rt: &HostRuntime, path: &str) -> bool {
 }
 
 // Returns the fault for an error of reading the length of the WAL.
-fn unread(error: io::Error) -> FileFault
+fn fault_of_read(error: io::Error) -> FileFault
     ensures { (result ≡ FileFault.Storage) ⊎ (result ≡ FileFault.Memory) }
 {
     if error.kind() == ErrorKind::OutOfMemory {
@@ -131,7 +131,7 @@ fn is_long<D: Disk>(log: &mut D) -> Result<bool, FileFault>
 {
     match log.len() {
         Ok(len) => Ok(len as u64 > EMPTY_LOG),
-        Err(error) => Err(unread(error)),
+        Err(error) => Err(fault_of_read(error)),
     }
 }
 

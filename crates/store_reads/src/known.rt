@@ -195,7 +195,7 @@ impl Known {
 
     /// Caches the counters of the batch with the id `batch`. If the cache is full, the oldest entry
     /// is evicted. If an allocation fails, the counters are not cached and will be read again.
-    pub fn count(&mut self, batch: u64, totals: &BatchTotals)
+    pub fn cache_counters(&mut self, batch: u64, totals: &BatchTotals)
         ensures records { known_records self.new ≡ known_records self.old }
         ensures standing { standing_record self.new ≡ standing_record self.old }
         ensures counted { (s : Counters) → Contains (known_counters self.new) s

@@ -23,7 +23,7 @@ use Rattle.sql_tables.specs.Tables.{reply_at}
 use Rattle.table_reads.specs.Replies.{StandWithoutBytes, brief_of}
 use Rattle.table_reads.specs.Shown.{IsAny, IsBlob, IsBriefRow}
 use Rattle.table_reads.specs.Unread.{without_bytes}
-use Rattle.table_reads.specs.Whole.{AreShown, NoneStandSo, columns_of, with_rowid}
+use Rattle.table_reads.specs.Whole.{AreShown, NoneFit, columns_of, with_rowid}
 use Rattle.table_reads.proofs.BriefText.{brief_columns}
 use Rattle.table_reads.proofs.ReadRows.{each_keeps, from_all, shaped, to_all}
 use Rattle.table_reads.proofs.Shapes.{filled, spread}
@@ -139,7 +139,7 @@ stand_without_bytes db sound tree f rows apart shown are =
       rows_are = subst (λ xs. IsPermutation xs (map (drop 1) stored)) (sym (all_whole b.all keeps briefs)) (IsPermutation-map (drop 1) b.all stored (IsPermutation-sym _ _ b.same));
     }
 
-pub none_stand : (stored rows : List Row) (apart : Bool) → AreShown (with_rowid brief_columns) stored rows apart → (All IsBriefRow rows → ⊥) → NoneStandSo reply_row IsAny (given_rows false stored)
+pub none_stand : (stored rows : List Row) (apart : Bool) → AreShown (with_rowid brief_columns) stored rows apart → (All IsBriefRow rows → ⊥) → NoneFit reply_row IsAny (given_rows false stored)
 none_stand stored rows apart shown none = λ xs all same.
     none (All-permutation IsBriefRow (map brief stored) rows shown.rows
     (All-map IsBriefRow brief stored (shaped reply_row IsAny (drop 1) (λ r. IsBriefRow (brief r)) brief_law stored (map (drop 1) stored) (IsPermutation-refl _) xs all same)))

@@ -11,7 +11,7 @@ use Rattle.sql_base.specs.Rowids.{AreApart}
 use Rattle.sql_tables.specs.Tables.{batch_at, blank_at, grouping_at, lot_at, mark_at, our_schema, product_at, record_at, remake_at, reply_at, session_at, word_at}
 use Rattle.sql_rows.specs.Image.{IsFilled, IsImage, given_rows}
 use Rattle.table_rows.specs.Tables.{Tables}
-use Rattle.sql_tables.specs.Alike.{AreAmong, HasJust, HasNoFurtherKey, IsOneOf, is_no_further_key}
+use Rattle.sql_tables.specs.Alike.{AreAmong, HasExactly, HasNoFurtherKey, IsOneOf, is_no_further_key}
 use Rattle.sql_tables.specs.Finds.{Finds}
 use Rattle.sql_tables.specs.Versions.{numbered_version_at}
 use Rattle.sql_tables.specs.declared.versions.Version.{Version}
@@ -72,14 +72,14 @@ no_further_key : HasNoFurtherKey our_schema.indexes
 unfolding HasNoFurtherKey
 no_further_key = to_all is_no_further_key our_schema.indexes own_keys
 
-just_ours : HasJust our_schema our_schema
+just_ours : HasExactly our_schema our_schema
 just_ours = record { each = among_itself our_schema.tables; all = among_itself our_schema.tables; apart = apart_numbers; keys = no_further_key; views = refl }
 
 pub our_image_held : (t : Tables) (db : Database) → IsImage t db → HoldsRows Three t db
 our_image_held t db image =
     let ours = image.ours in
     record {
-      just = subst (λ s. HasJust s our_schema) (sym ours) just_ours;
+      just = subst (λ s. HasExactly s our_schema) (sym ours) just_ours;
       version = held_at (numbered_version_at 3) true _ db 0 ours all_found.0 image.each.0.rows;
       products = held_at product_at false _ db 1 ours all_found.1.0 image.each.1.0.rows;
       lots = held_at lot_at false _ db 3 ours all_found.1.1.0 image.each.1.1.0.rows;

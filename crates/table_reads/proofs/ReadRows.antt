@@ -15,7 +15,7 @@ use Rattle.sql_tables.specs.Finds.{Finds}
 use Rattle.sql_rows.specs.Image.{given_rows}
 use Rattle.table_reads.specs.Converted.{AreConverted}
 use Rattle.table_reads.specs.declared.reads.TableRows.{TableRows}
-use Rattle.table_reads.specs.Whole.{AreShown, IsWhole, NoneStandSo, as_stored, columns_of, stored_row, with_rowid}
+use Rattle.table_reads.specs.Whole.{AreShown, IsWhole, NoneFit, as_stored, columns_of, stored_row, with_rowid}
 use Rattle.sql_tables.proofs.Lookups.{all_at, is_at}
 
 -- ---- the rows of a query for a whole table
@@ -81,7 +81,7 @@ shaped encode fits f IsShaped law rows stored is xs all same =
     to_all IsShaped rows (each_behind f IsShaped rows (from_all Behind (map f rows) here))
 
 none_read : {X : Type 0} (encode : X → Row) (fits : X → Type 0) (by_rowid : Bool) (IsShaped : Row → Type 0) → ((x : X) → fits x → (r : Row) → as_stored by_rowid r ≡ encode x → IsShaped r) → (rows : List Row) (stored : List Row)
-    → IsPermutation (map (as_stored by_rowid) rows) stored → (All IsShaped rows → ⊥) → NoneStandSo encode fits stored
+    → IsPermutation (map (as_stored by_rowid) rows) stored → (All IsShaped rows → ⊥) → NoneFit encode fits stored
 none_read encode fits by_rowid IsShaped law rows stored is none = λ xs all same. none (shaped encode fits (as_stored by_rowid) IsShaped law rows stored is xs all same)
 
 -- ---- the result of reading a whole table
@@ -95,7 +95,7 @@ zip_maps encode f (r ∷ rows) (x ∷ xs) all = ap₂ ◌∷◌ all.0 (zip_maps 
 module _ {X : Type 0} (encode : X → Row) (fits : X → Type 0) (by_rowid : Bool) (IsShaped : Row → Type 0) (law : (x : X) → fits x → (r : Row) → as_stored by_rowid r ≡ encode x → IsShaped r) where
   pub whole_found : (sql : List ℕ) (table : ℕ → Table) (whole : IsWhole sql table by_rowid) (db : Database) → IsDatabase db → (found : Option (TableRows X)) → AreConverted IsShaped (λ r x. encode x ≡ as_stored by_rowid r) sql db found
       → (tree : ℕ) → Finds db.schema (table tree)
-      → MatchOption found (NoneStandSo encode fits (given_rows by_rowid (db.trees tree))) (λ all. IsPermutation (map encode all.rows.items) (given_rows by_rowid (db.trees tree)) × (IsTrue all.apart ↔ AreApart (db.trees tree)))
+      → MatchOption found (NoneFit encode fits (given_rows by_rowid (db.trees tree))) (λ all. IsPermutation (map encode all.rows.items) (given_rows by_rowid (db.trees tree)) × (IsTrue all.apart ↔ AreApart (db.trees tree)))
   whole_found sql table whole db sound None read tree f =
       let l = read tree whole.columns (whole.asks db.schema tree f) in
       none_read encode fits by_rowid IsShaped law l.rows (given_rows by_rowid (db.trees tree)) (exact sql table by_rowid whole db sound tree f l.rows l.apart l.shown) l.lack

@@ -11,9 +11,9 @@ use Rattle.store_data.specs.declared.row.Product.{Product}
 use Rattle.job_facts.specs.Contents.{Entry, Mark}
 use Rattle.sql_base.specs.Rowids.{AreApart}
 use Rattle.sql_tables.specs.Tables.{batch_at, blank_at, grouping_at, lot_at, mark_at, our_schema, product_at, record_at, remake_at, reply_at, session_at, word_at}
-use Rattle.sql_tables.specs.Alike.{HasJust}
+use Rattle.sql_tables.specs.Alike.{HasExactly}
 use Rattle.sql_tables.specs.Finds.{Finds}
-use Rattle.sql_tables.specs.Ours.{AreThere, Stands}
+use Rattle.sql_tables.specs.Ours.{AreThere, HasTable}
 use Rattle.sql_tables.specs.Versions.{numbered_version_at, schema_of, unmixed_grouping_at}
 use Rattle.sql_tables.specs.declared.versions.Version.{Version}
 use Rattle.sql_tables.specs.declared.versions.Version.TheVariants.{One, Two, Three}
@@ -28,7 +28,7 @@ use Rattle.table_reads.specs.Replies.{StandWithoutBytes}
 use Rattle.table_reads.specs.Shown.{IsAny}
 use Rattle.table_reads.specs.Unread.{without_reply_bytes}
 use Rattle.table_reads.specs.Version.{numbered_row}
-use Rattle.table_reads.specs.Whole.{NoneStandSo}
+use Rattle.table_reads.specs.Whole.{NoneFit}
 use Rattle.table_reads.specs.declared.reads.TableRows.{TableRows}
 use Rattle.table_reads.specs.declared.tables.HeldRows.{HeldRows}
 use Rattle.table_reads.proofs.Found.{all_found}
@@ -41,9 +41,9 @@ at table by_rowid rows db n finds has = record { number = n; finds = finds; rows
 
 module _ (v : Version) (db : Database) (held : HeldRows) (most : HasMost v db held) (replies : List Entry) (of_replies : Holds reply_at false (map reply_row replies) db) where
   -- under the tree numbers of the tables
-  rows_numbered : {p l b r s w k m : ℕ} → HasJust db.schema (schema_of v) → SaysVersion v db
-      → Stands db.schema (product_at p) → Stands db.schema (lot_at l) → Stands db.schema (batch_at b) → Stands db.schema (record_at r) → Stands db.schema (session_at s) → Stands db.schema (word_at w)
-      → Stands db.schema (blank_at k) → Stands db.schema (remake_at m)
+  rows_numbered : {p l b r s w k m : ℕ} → HasExactly db.schema (schema_of v) → SaysVersion v db
+      → HasTable db.schema (product_at p) → HasTable db.schema (lot_at l) → HasTable db.schema (batch_at b) → HasTable db.schema (record_at r) → HasTable db.schema (session_at s) → HasTable db.schema (word_at w)
+      → HasTable db.schema (blank_at k) → HasTable db.schema (remake_at m)
       → Holds (groupings_at v) false (map grouping_row held.tables.groupings) db → HoldsMarks v held.tables.marks db → HoldsRows v (record held.tables { replies = replies }) db
   rows_numbered just says product lot batch of_record session word blank remake groupings marks = record {
     just = just;
@@ -64,7 +64,7 @@ module _ (v : Version) (db : Database) (held : HeldRows) (most : HasMost v db he
 -- If the tables are the tables of `v`, and the row of `version` has its number, the database holds
 -- the rows `t`.
 abbrev HasRows : Version → Database → Tables → Type 0
-HasRows v db t = HasJust db.schema (schema_of v) → AreThere db.schema (schema_of v).tables → SaysVersion v db → HoldsRows v t db
+HasRows v db t = HasExactly db.schema (schema_of v) → AreThere db.schema (schema_of v).tables → SaysVersion v db → HoldsRows v t db
 
 rows_held : (v : Version) (db : Database) (held : HeldRows) → HasMost v db held → (replies : List Entry) → Holds reply_at false (map reply_row replies) db → HasRows v db (record held.tables { replies = replies })
 rows_held One db held most replies of_replies just there says =
@@ -130,7 +130,7 @@ for_audit v db held most replies brief just there says =
 -- the result of reading replies without their bytes
 abbrev pub BriefRead : Database → Option (TableRows Entry) → Type 0
 BriefRead db found =
-    (tree : ℕ) → Finds db.schema (reply_at tree) → MatchOption found (NoneStandSo reply_row IsAny (given_rows false (db.trees tree))) (λ all. StandWithoutBytes all.rows.items (given_rows false (db.trees tree)) × (IsTrue all.apart ↔ AreApart (db.trees tree)))
+    (tree : ℕ) → Finds db.schema (reply_at tree) → MatchOption found (NoneFit reply_row IsAny (given_rows false (db.trees tree))) (λ all. StandWithoutBytes all.rows.items (given_rows false (db.trees tree)) × (IsTrue all.apart ↔ AreApart (db.trees tree)))
 
 pub none_brief : (v : Version) (db : Database) (found : Option (TableRows Entry)) → found ≡ None → BriefRead db found → HoldsNoneOf v db
 none_brief v db found none read = λ t fit held. subst (BriefRead db) none read held.replies.number held.replies.finds t.replies (λ k d low. tt) held.replies.rows_are

@@ -17,7 +17,7 @@ use Rattle.sql_tables.specs.Versions.{unmixed_grouping_at}
 use Rattle.sql_tables.specs.declared.versions.Version.{Version}
 use Rattle.sql_tables.specs.declared.versions.Version.TheVariants.{One, Two, Three}
 use Rattle.table_reads.specs.Shown.{FitsGrouping, IsAny}
-use Rattle.table_reads.specs.Whole.{IsWhole, NoneStandSo}
+use Rattle.table_reads.specs.Whole.{IsWhole, NoneFit}
 use Rattle.table_reads.proofs.Meanings.{wholes}
 use Rattle.table_reads.specs.Texts.{groupings_text, marks_text, unmixed_groupings_text}
 use Rattle.table_reads.specs.Holding.{Holds, HoldsRows}
@@ -29,7 +29,7 @@ use Rattle.table_reads.proofs.Together.{carried, found_as}
 abbrev pub Answers : {X : Type 0} → List ℕ → (X → Row) → (X → Type 0) → Bool → State → Option (TableRows X) → Type 0
 Answers sql encode fits by_rowid s found =
     IsTrue s.is_open
-    × ((table : ℕ → Table) → IsWhole sql table by_rowid → (tree : ℕ) → Finds s.now.schema (table tree) → MatchOption found (NoneStandSo encode fits (given_rows by_rowid (s.now.trees tree))) (λ all. IsPermutation (map encode all.rows.items) (given_rows by_rowid (s.now.trees tree)) × (IsTrue all.apart ↔ AreApart (s.now.trees tree))))
+    × ((table : ℕ → Table) → IsWhole sql table by_rowid → (tree : ℕ) → Finds s.now.schema (table tree) → MatchOption found (NoneFit encode fits (given_rows by_rowid (s.now.trees tree))) (λ all. IsPermutation (map encode all.rows.items) (given_rows by_rowid (s.now.trees tree)) × (IsTrue all.apart ↔ AreApart (s.now.trees tree))))
 
 -- The rows of the table were read, or the database holds no rows of the version.
 abbrev pub IsRead : {X : Type 0} → Version → (X → Row) → (ℕ → Table) → Bool → Database → Option (TableRows X) → Type 0

@@ -10,7 +10,7 @@ use Rattle.sql_base.specs.Ends.{IsKept}
 use Rattle.sql_base.specs.Rowids.{AreApart}
 use Rattle.sql_rows.specs.Image.{given_rows}
 use Rattle.sql_tables.specs.Finds.{Finds}
-use Rattle.table_reads.specs.Whole.{NoneStandSo}
+use Rattle.table_reads.specs.Whole.{NoneFit}
 use Rattle.table_reads.specs.Holding.{Holds}
 use Rattle.table_reads.specs.Reading.{HasWhole, Reads}
 use Rattle.table_reads.specs.declared.reads.TableRows.{TableRows}
@@ -25,7 +25,7 @@ early old new survives clean = omega (arith, survives.clean)
 -- the result for one table
 pub found_as : {X : Type 0} (encode : X → Row) (fits : X → Type 0) (table : ℕ → Table) (by_rowid : Bool) (db : Database) (Refused : Type 0)
     → (((xs : List X) → All fits xs → Holds table by_rowid (map encode xs) db → ⊥) → Refused) → (found : Option (TableRows X))
-    → ((tree : ℕ) → Finds db.schema (table tree) → MatchOption found (NoneStandSo encode fits (given_rows by_rowid (db.trees tree))) (λ all. IsPermutation (map encode all.rows.items) (given_rows by_rowid (db.trees tree)) × (IsTrue all.apart ↔ AreApart (db.trees tree))))
+    → ((tree : ℕ) → Finds db.schema (table tree) → MatchOption found (NoneFit encode fits (given_rows by_rowid (db.trees tree))) (λ all. IsPermutation (map encode all.rows.items) (given_rows by_rowid (db.trees tree)) × (IsTrue all.apart ↔ AreApart (db.trees tree))))
     → MatchOption found Refused (HasWhole table by_rowid encode db)
 found_as encode fits table by_rowid db Refused refuses (Some all) h = h
 found_as encode fits table by_rowid db Refused refuses None h = refuses (λ xs fit held. h held.number held.finds xs fit held.rows_are)

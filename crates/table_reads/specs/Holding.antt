@@ -11,7 +11,7 @@ use Rattle.image_laws.specs.Image.{image}
 use Rattle.sql_tables.specs.Tables.{batch_at, blank_at, grouping_at, lot_at, mark_at, product_at, record_at, remake_at, reply_at, session_at, word_at}
 use Rattle.sql_rows.specs.Encoding.{batch_row, blank_row, grouping_row, lot_row, mark_row, product_row, record_row, remake_row, reply_row, session_row, word_row}
 use Rattle.sql_rows.specs.Image.{given_rows}
-use Rattle.sql_tables.specs.Alike.{HasJust}
+use Rattle.sql_tables.specs.Alike.{HasExactly}
 use Rattle.sql_tables.specs.Finds.{Finds}
 use Rattle.sql_tables.specs.Versions.{numbered_version_at, schema_of, unmixed_grouping_at}
 use Rattle.sql_tables.specs.declared.versions.Version.{Version}
@@ -49,12 +49,12 @@ SaysVersion v db = Holds (numbered_version_at (number_of v)) true (numbered_row 
 
 -- The tables are the tables of `v`, and the row of `version` has its number.
 abbrev pub IsOfVersion : Version → Database → Type 0
-IsOfVersion v db = HasJust db.schema (schema_of v) × SaysVersion v db
+IsOfVersion v db = HasExactly db.schema (schema_of v) × SaysVersion v db
 
 -- ---- all tables
 
 pub record HoldsRows (v : Version) (t : Tables) (db : Database) : Type 0 where
-  pub just : HasJust db.schema (schema_of v)
+  pub just : HasExactly db.schema (schema_of v)
   pub version : SaysVersion v db
   pub products : Holds product_at false (map product_row t.products) db
   pub lots : Holds lot_at false (map lot_row t.lots) db

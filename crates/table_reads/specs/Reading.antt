@@ -12,7 +12,7 @@ use Rattle.table_rows.specs.Tables.{StoredBatch, StoredBlank, StoredGrouping, St
 use Rattle.sql_tables.specs.Tables.{batch_at, batch_table, blank_at, blank_table, grouping_table, lot_at, lot_table, mark_at, mark_table, our_schema, product_at, product_table, record_at, record_table, remake_at, remake_table, session_at, session_table, word_at, word_table}
 use Rattle.sql_rows.specs.Encoding.{batch_row, blank_row, grouping_row, lot_row, mark_row, product_row, record_row, remake_row, session_row, word_row}
 use Rattle.sql_rows.specs.Image.{given_rows}
-use Rattle.sql_tables.specs.Alike.{HasJust}
+use Rattle.sql_tables.specs.Alike.{HasExactly}
 use Rattle.sql_tables.specs.Finds.{Finds}
 use Rattle.sql_tables.specs.Ours.{AreThere}
 use Rattle.sql_tables.specs.Versions.{schema_of}
@@ -128,4 +128,4 @@ pub record IsForAudit (v : Version) (db : Database) (held : HeldRows) : Type 0 w
   pub apart : db.schema ≡ our_schema → IsTrue held.apart ↔ HasRowidsApart db
 
 abbrev pub HasForAudit : Version → Database → HeldRows → Type 0
-HasForAudit v db held = HasJust db.schema (schema_of v) → AreThere db.schema (schema_of v).tables → SaysVersion v db → IsForAudit v db held
+HasForAudit v db held = HasExactly db.schema (schema_of v) → AreThere db.schema (schema_of v).tables → SaysVersion v db → IsForAudit v db held

@@ -60,5 +60,5 @@ pub record IsWhole (sql : List ℕ) (table : ℕ → Table) (by_rowid : Bool) : 
       → as_stored by_rowid (columns_of (with_rowid columns) row) ≡ stored_row by_rowid row
 
 -- No typed rows in range encode to the rows `stored`, in any order.
-abbrev pub NoneStandSo : {X : Type 0} → (X → Row) → (X → Type 0) → List Row → Type 0
-NoneStandSo encode fits stored = (xs : List _) → All fits xs → IsPermutation (map encode xs) stored → ⊥
+abbrev pub NoneFit : {X : Type 0} → (X → Row) → (X → Type 0) → List Row → Type 0
+NoneFit encode fits stored = (xs : List _) → All fits xs → IsPermutation (map encode xs) stored → ⊥

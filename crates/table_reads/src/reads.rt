@@ -11,7 +11,7 @@ ghost use Rattle.sql_base.specs.Unchanged.{LooksWithCause};
 ghost use Rattle.sql_tables.specs.Finds.{Finds};
 ghost use Rattle.sql_rows.specs.Image.{given_rows};
 ghost use Rattle.table_reads.specs.Converted.{AreConverted};
-ghost use Rattle.table_reads.specs.Whole.{AreShown, Asks, IsWhole, NoneStandSo, with_rowid};
+ghost use Rattle.table_reads.specs.Whole.{AreShown, Asks, IsWhole, NoneFit, with_rowid};
 
 use crate::conversion::{Conversion, all_in};
 use crate::rowids::{are_rising, sort_rowids};
@@ -108,7 +108,7 @@ pub fn whole<T: Stored, S: Alter>(
         (λ found. IsTrue (state S.Store conn.old).is_open × ((table : ℕ → Table)
         → IsWhole sql.now table T.by_rowid → (tree : ℕ)
         → Finds (state S.Store conn.old).now.schema (table tree) → MatchOption found
-        (NoneStandSo T.encode T.fits
+        (NoneFit T.encode T.fits
         (given_rows T.by_rowid ((state S.Store conn.old).now.trees tree)))
         (λ all. IsPermutation (map T.encode all.rows.items)
         (given_rows T.by_rowid ((state S.Store conn.old).now.trees tree))

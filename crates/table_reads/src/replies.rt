@@ -16,7 +16,7 @@ ghost use Rattle.table_reads.specs.Holding.{HoldsRows};
 ghost use Rattle.table_reads.specs.Replies.{StandWithoutBytes, brief_of};
 ghost use Rattle.table_reads.specs.Shown.{IsAny, IsBriefRow};
 ghost use Rattle.table_reads.specs.Unread.{without_reply_bytes};
-ghost use Rattle.table_reads.specs.Whole.{NoneStandSo};
+ghost use Rattle.table_reads.specs.Whole.{NoneFit};
 
 use crate::conversion::Conversion;
 use crate::reads::{TableRows, converted, whole};
@@ -65,7 +65,7 @@ pub(crate) fn brief_replies<S: Alter>(
     ensures value { HasCleanDisk (state S.Store conn.new) → IfOk result
         (λ found. IsTrue (state S.Store conn.old).is_open × ((tree : ℕ)
         → Finds (state S.Store conn.old).now.schema (reply_at tree) → MatchOption found
-        (NoneStandSo reply_row IsAny
+        (NoneFit reply_row IsAny
         (given_rows false ((state S.Store conn.old).now.trees tree)))
         (λ all. StandWithoutBytes all.rows.items
         (given_rows false ((state S.Store conn.old).now.trees tree))

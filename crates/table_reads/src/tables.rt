@@ -27,7 +27,7 @@ pub struct HeldRows {
 // The rows of each table except `reply`. The rows are `None` if a row doesn't have the shape of its
 // table.
 #[derive(Drop)]
-struct Found {
+struct MostRows {
     products: Option<TableRows<StoredProduct>>,
     lots: Option<TableRows<StoredLot>>,
     batches: Option<TableRows<StoredBatch>>,
@@ -50,7 +50,7 @@ fn rows_beside<T: Drop>(table: TableRows<T>, apart: &mut bool) -> Vec<T>
 }
 
 // Returns the rows of all tables except `reply`, if every table was read.
-fn gathered(alloc: Global, found: Found) -> Option<HeldRows>
+fn gathered(alloc: Global, found: MostRows) -> Option<HeldRows>
     ensures { result ≡ held_of found.products found.lots found.batches found.records
         found.groupings found.sessions found.words found.blanks found.remakes found.marks }
 {
@@ -133,7 +133,7 @@ fn read_most<S: Alter>(
     let remakes = whole(alloc, conn, "SELECT rowid, * FROM remake")?;
     Ok(gathered(
         alloc,
-        Found {
+        MostRows {
             products,
             lots,
             batches,

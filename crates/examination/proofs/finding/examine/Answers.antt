@@ -1,13 +1,13 @@
 use Rattle.std.proofs.Common.{arith, subst}
 use Rattle.sqlite.specs.Held.{state}
 use Rattle.sqlite.specs.State.{HasCleanDisk}
-use Rattle.examination.specs.Standings.{Stands}
+use Rattle.examination.specs.Standings.{IsSchemaMatch}
 use Rattle.examination.proofs.FoundLemmas.{none_read, read_judged, stands_as}
 use Rattle.table_reads.proofs.Looking.{looks_past, looks_plainly, looks_then, looks_well}
 use Rattle.examination.proofs.finding.examine.Goals as goal
 
 pub returns-in-NotOurs-clause-value : goal.returns-in-NotOurs-clause-value
-returns-in-NotOurs-clause-value g c clean = subst (Stands (state g.S.Store c.args.conn.now).now) c.in-NotOurs.is (c.in_ok-found.ensures.value clean)
+returns-in-NotOurs-clause-value g c clean = subst (IsSchemaMatch (state g.S.Store c.args.conn.now).now) c.in-NotOurs.is (c.in_ok-found.ensures.value clean)
 
 pub returns-in_default-clause-value : goal.returns-in_default-clause-value
 returns-in_default-clause-value g c clean =

@@ -1,6 +1,6 @@
 use Rattle.std.proofs.Common.{◌≡◌, ◌↔◌, IfSome, IsTrue, MatchOption, subst}
 use Rattle.sqlite.specs.Held.{state}
-use Rattle.sql_tables.specs.Alike.{HasJust}
+use Rattle.sql_tables.specs.Alike.{HasExactly}
 use Rattle.sql_tables.specs.Ours.{AreThere}
 use Rattle.sql_tables.specs.Tables.{our_schema}
 use Rattle.sql_tables.specs.Versions.{schema_of}
@@ -15,8 +15,8 @@ returns-then-branch-clause-value g c clean =
     let s = (state g.S.Store c.args.conn.now).now.schema in
     let said = c.in_ok-says.ensures.value clean in
     let there : AreThere s (schema_of c.in-Some.found.version).tables = subst (λ found. IfSome found (λ m. AreThere s (schema_of m.version).tables)) c.in-Some.is (c.in_ok-found.ensures.there said.0) in
-    let just : HasJust s (schema_of c.in-Some.found.version) =
-    subst (λ found. MatchOption found ((v : Version) → ¬ HasJust s (schema_of v)) (λ m. HasJust s (schema_of m.version))) c.in-Some.is c.in_ok-found.ensures.exact in
+    let just : HasExactly s (schema_of c.in-Some.found.version) =
+    subst (λ found. MatchOption found ((v : Version) → ¬ HasExactly s (schema_of v)) (λ m. HasExactly s (schema_of m.version))) c.in-Some.is c.in_ok-found.ensures.exact in
     let exact : IsTrue c.in-Some.found.is_exact ↔ (s ≡ our_schema) = subst (λ found. IfSome found (λ m. IsTrue m.is_exact ↔ (s ≡ our_schema))) c.in-Some.is c.in_ok-found.ensures.created in
     ((just, (said.1 there).0 c.if-branch.true), there, exact)
 
@@ -26,8 +26,8 @@ returns-else-branch-clause-value g c clean =
     let v = c.in-Some.found.version in
     let said = c.in_ok-says.ensures.value clean in
     let there : AreThere db.schema (schema_of v).tables = subst (λ found. IfSome found (λ m. AreThere db.schema (schema_of m.version).tables)) c.in-Some.is (c.in_ok-found.ensures.there said.0) in
-    let just : HasJust db.schema (schema_of v) =
-    subst (λ found. MatchOption found ((w : Version) → ¬ HasJust db.schema (schema_of w)) (λ m. HasJust db.schema (schema_of m.version))) c.in-Some.is c.in_ok-found.ensures.exact in
+    let just : HasExactly db.schema (schema_of v) =
+    subst (λ found. MatchOption found ((w : Version) → ¬ HasExactly db.schema (schema_of w)) (λ m. HasExactly db.schema (schema_of m.version))) c.in-Some.is c.in_ok-found.ensures.exact in
     let other : ¬ SaysVersion v db = λ says. let yes = (said.1 there).1 says in absurd (cc (yes, c.if-branch.false)) in
     (of_no_version v db there other, (v, just, other))
 

@@ -1,7 +1,7 @@
 use Rattle.std.proofs.Common.{◌≡◌, subst}
 use Rattle.sqlite.specs.Held.{state}
 use Rattle.sqlite.specs.Schema.{Schema}
-use Rattle.sql_tables.specs.Alike.{HasJust}
+use Rattle.sql_tables.specs.Alike.{HasExactly}
 use Rattle.sql_tables.specs.Ours.{AreThere}
 use Rattle.sql_tables.specs.Tables.{our_schema}
 use Rattle.sql_tables.specs.Versions.{schema_of}
@@ -12,7 +12,7 @@ use Rattle.sql_tables.proofs.versions.version_in.Goals as goal
 pub returns-then-has_tables-clause-exact : goal.returns-then-has_tables-clause-exact
 returns-then-has_tables-clause-exact g c =
     let s = (state g.S.Store c.args.conn.now).now.schema in
-    subst (λ ours. HasJust s ours) c.in_ok-ours.ensures (c.has_tables.ensures.exact.0 c.if-has_tables.true)
+    subst (λ ours. HasExactly s ours) c.in_ok-ours.ensures (c.has_tables.ensures.exact.0 c.if-has_tables.true)
 
 pub returns-then-has_tables-clause-there : goal.returns-then-has_tables-clause-there
 returns-then-has_tables-clause-there g c live =
@@ -25,10 +25,10 @@ returns-then-branch-clause-there g c live = c.in_ok-has_version.ensures.there li
 pub returns-then-branch-2-clause-there : goal.returns-then-branch-2-clause-there
 returns-then-branch-2-clause-there g c live = c.in_ok-has_version-2.ensures.there live c.if-branch-2.true
 
-none_of : (s ours : Schema) (v : Version) → ours ≡ our_schema → ¬ HasJust s (schema_of One) → ¬ HasJust s (schema_of Two) → ¬ HasJust s ours → ¬ HasJust s (schema_of v)
+none_of : (s ours : Schema) (v : Version) → ours ≡ our_schema → ¬ HasExactly s (schema_of One) → ¬ HasExactly s (schema_of Two) → ¬ HasExactly s ours → ¬ HasExactly s (schema_of v)
 none_of s ours One is one two three = one
 none_of s ours Two is one two three = two
-none_of s ours Three is one two three = subst (λ o. ¬ HasJust s o) is three
+none_of s ours Three is one two three = subst (λ o. ¬ HasExactly s o) is three
 
 pub returns-clause-exact : goal.returns-clause-exact
 returns-clause-exact g c v =

@@ -7,7 +7,7 @@ use Rattle.sql_rows.specs.Image.{given_rows}
 use Rattle.sql_tables.specs.Tables.{reply_at}
 use Rattle.table_rows.specs.Tables.{HaveSameRows}
 use Rattle.table_reads.specs.Shown.{IsAny}
-use Rattle.table_reads.specs.Whole.{NoneStandSo}
+use Rattle.table_reads.specs.Whole.{NoneFit}
 use Rattle.table_reads.proofs.Meanings.{wholes}
 use Rattle.table_reads.proofs.RowsHeld.{with_bytes}
 use Rattle.table_reads.proofs.replies.with_reply_bytes.Goals as goal
@@ -18,7 +18,7 @@ returns-in_default-clause-value g c clean =
     let read = c.in_ok-replies.ensures.value clean in (
       read.0,
       λ v t holds same.
-          subst (λ found. MatchOption found (NoneStandSo reply_row IsAny (given_rows false (db.trees holds.replies.number))) (λ all. IsPermutation (map reply_row all.rows.items) (given_rows false (db.trees holds.replies.number)) × (IsTrue all.apart ↔ AreApart (db.trees holds.replies.number))))
+          subst (λ found. MatchOption found (NoneFit reply_row IsAny (given_rows false (db.trees holds.replies.number))) (λ all. IsPermutation (map reply_row all.rows.items) (given_rows false (db.trees holds.replies.number)) × (IsTrue all.apart ↔ AreApart (db.trees holds.replies.number))))
           c.in_default.is (read.1 reply_at wholes.replies holds.replies.number holds.replies.finds) t.replies (λ k d low. tt) holds.replies.rows_are,
     )
 
@@ -32,6 +32,6 @@ returns-clause-value g c clean =
           subst (λ u. HaveSameRows (record u { replies = rows }) t) (sym c.tables.view_is)
           (with_bytes v db c.args.tables t holds same rows
           (λ tree finds.
-          (subst (λ found. MatchOption found (NoneStandSo reply_row IsAny (given_rows false (db.trees tree))) (λ all. IsPermutation (map reply_row all.rows.items) (given_rows false (db.trees tree)) × (IsTrue all.apart ↔ AreApart (db.trees tree))))
+          (subst (λ found. MatchOption found (NoneFit reply_row IsAny (given_rows false (db.trees tree))) (λ all. IsPermutation (map reply_row all.rows.items) (given_rows false (db.trees tree)) × (IsTrue all.apart ↔ AreApart (db.trees tree))))
           c.in-Some.is (read.1 reply_at wholes.replies tree finds)).0)),
     )

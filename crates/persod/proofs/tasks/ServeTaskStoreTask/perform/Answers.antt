@@ -13,7 +13,7 @@ use Rattle.server_run.specs.ServerLines.{WritesLines}
 use Rattle.server_run.specs.declared.opening.Opened.{Opened}
 use Rattle.server_run.specs.declared.stopping.ServeStop.{ServeStop}
 use Rattle.reply_store.proofs.Handling.{Stays-refl}
-use Rattle.store_files.specs.declared.file.Found.{Found}
+use Rattle.store_files.specs.declared.file.FileState.{FileState}
 use Rattle.subcommands.specs.Joins.{end_of_close}
 use Rattle.subcommands.specs.Unstarted.{unstarted_line}
 use Rattle.subcommands.specs.declared.end.End.{End}
@@ -23,7 +23,7 @@ use Rattle.persod.proofs.tasks.ServeTaskStoreTask.perform.Goals as goal
 
 -- The contract of a server over tables gives the result of the task, which has the same port and
 -- the same level of event lines.
-served : (task : ServeTask) (found : Found) (old last : State) (whole : Type 0) (Unclosed : StoreFault → Type 0) (opened : Opened) (es : List Exchange) (result : Result (Unit {0}) ServeStop) (port : ℕ) (level : Level) (end : End)
+served : (task : ServeTask) (found : FileState) (old last : State) (whole : Type 0) (Unclosed : StoreFault → Type 0) (opened : Opened) (es : List Exchange) (result : Result (Unit {0}) ServeStop) (port : ℕ) (level : Level) (end : End)
     → IsOpening task found opened → ServesAll old last es → WritesLines whole (λ _. ⊤) port task.turns (length es) None None result → port ≡ task.port
     → NotesRun whole Unclosed old last false opened es result level None None → level ≡ task.level → end ≡ end_of_serve result → ServesFile task found old last whole Unclosed end
 served task found old last whole Unclosed opened es result port level end opening serves writes listens notes is ends = record {

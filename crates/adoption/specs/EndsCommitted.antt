@@ -6,7 +6,7 @@ use Rattle.sqlite.specs.Tree.{Trees}
 
 -- The connection is open and shows the new database, and a crash leaves exactly this database. `R`
 -- relates the database before to the new one.
-pub record Comes (R : Database → Database → Type 0) (old new : State) : Type 0 where
+pub record EndsCommitted (R : Database → Database → Type 0) (old new : State) : Type 0 where
   pub db : Database
   pub made : R old.now db
   pub shown : IsTrue new.is_open → new.now ≡ db

@@ -6,5 +6,5 @@ use Rattle.sql_rows.specs.Image.{IsImage}
 
 -- If the old database has the rows of any sound contents `c` that satisfy `Owed`, the new database
 -- has the rows of `after c`.
-abbrev pub Takes : (Contents → Type 0) → (Contents → Contents) → Database → Database → Type 0
-Takes Owed after old new = (c : Contents) → AreSound c → Owed c → IsImage (image c) old → IsImage (image (after c)) new
+abbrev pub MovesContents : (Contents → Type 0) → (Contents → Contents) → Database → Database → Type 0
+MovesContents Owed after old new = (c : Contents) → AreSound c → Owed c → IsImage (image c) old → IsImage (image (after c)) new
