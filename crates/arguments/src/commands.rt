@@ -195,13 +195,7 @@ fn number_or<'a>(
 }
 
 /// Returns the option `--name WORD`, which is required if `needed` is `true`.
-pub fn text<'a>(
-    alloc: Global,
-    name: &'a str,
-    word: &'a str,
-    needed: bool,
-    help: &'a str,
-) -> Arg<'a>
+pub fn text<'a>(alloc: Global, name: &'a str, word: &'a str, needed: bool, help: &'a str) -> Arg<'a>
     ensures { IsArgument (text_rule name.entry.now needed) result }
 {
     Arg::new(alloc, name)
@@ -226,10 +220,7 @@ pub fn flag<'a>(alloc: Global, name: &'a str, help: &'a str) -> Arg<'a>
 /// # Errors
 ///
 /// Returns `AllocError` if an allocation fails.
-pub fn with_argument<'a>(
-    command: Command<'a>,
-    argument: Arg<'a>,
-) -> Result<Command<'a>, AllocError>
+pub fn with_argument<'a>(command: Command<'a>, argument: Arg<'a>) -> Result<Command<'a>, AllocError>
     ensures { (app : App) (rule : Rule) → IsCommand app command.entry
         → IsArgument rule argument.entry → IfOk result (IsCommand (with_rule app rule)) }
 {

@@ -1,5 +1,5 @@
 -- The rows of lots and blanks in the image of sound facts pass the audit.
-use Rattle.std.proofs.Common.{◌≡◌, ◌≢◌, ℕ, true, false, List, ◌++◌, get_or, map, count_by, filter, All, refl, sym, ap, ◌∙◌, subst, IsPermutation}
+use Rattle.std.proofs.Common.{◌≡◌, ◌≢◌, ℕ, true, false, not, List, ◌++◌, get_or, map, count_by, filter, All, refl, sym, ap, ◌∙◌, subst, append-nil, IsPermutation}
 use Rattle.std.specs.Prelude.{AllPairs, Bool, IsSome}
 use Rattle.std.proofs.lemmas.List.Elements.{All-append, All-map, filter-append}
 use Rattle.std.proofs.lemmas.Simd.{map-map}
@@ -12,13 +12,13 @@ use Rattle.job_facts.specs.Sound.{AreLots, IsSound}
 use Rattle.job_facts.specs.States.{is_in, lot_of}
 use Rattle.step_laws.specs.Sums.{discarded_in}
 use Rattle.table_rows.specs.Tables.{StoredBlank, StoredLot, StoredSession}
-use Rattle.image_laws.specs.Image.{image, lot_name, name_of, stored_blank, stored_blanks, stored_lot, stored_lots, stored_sessions}
+use Rattle.image_laws.specs.Image.{image, lot_name, name_of, sessions_by_id, stored_blank, stored_blanks, stored_lot, stored_lots, stored_session, stored_sessions}
 use Rattle.image_laws.proofs.Found.{some_there}
 use Rattle.image_laws.proofs.Lists.{unmoved}
 use Rattle.image_laws.proofs.Lookups.{none_pass}
 use Rattle.image_laws.specs.Decided.{discarded_rows}
 use Rattle.row_laws.proofs.BlankRows.{lots_are, serials_are}
-use Rattle.row_laws.proofs.Finding.{AllPairs-from_map, filter_all}
+use Rattle.row_laws.proofs.Finding.{AllPairs-from_map, filter_all, unnumbered}
 use Rattle.audit_laws.specs.Audited.{IsAuditedBlank, IsAuditedLot, opened_rows}
 
 module _ (c : Contents) (sound : IsSound c.facts) where
@@ -41,6 +41,23 @@ module _ (c : Contents) (sound : IsSound c.facts) where
       filter-append is_out (map opened f.sessions) out
       ∙ ap (λ bs. bs ++ filter is_out out) (none_pass opened is_out f.sessions (λ s. refl))
       ∙ filter_all is_out out (All-map (λ b. is_out b ≡ true) (stored_blank f true) f.discarded (λ k d within. refl))
+
+  rows_opened : opened_rows (stored_blanks f) ≡ map opened f.sessions
+  unfolding stored_blanks
+  rows_opened =
+      let stays : StoredBlank → Bool = λ b. not b.discarded in
+      let used : List StoredBlank = map opened f.sessions in
+      filter-append stays used (map (stored_blank f true) f.discarded)
+      ∙ ap (λ bs. filter stays used ++ bs) (none_pass (stored_blank f true) stays f.discarded (λ n. refl))
+      ∙ append-nil (filter stays used)
+      ∙ filter_all stays used (All-map (λ b. stays b ≡ true) opened f.sessions (λ k d within. refl))
+
+  blanks_of_sessions : map (λ (s : StoredSession). s.serial) (stored_sessions f) ≡ map (λ (s : Session). s.blank) f.sessions
+  unfolding stored_sessions
+  blanks_of_sessions =
+      map-map (λ (s : StoredSession). s.serial) (stored_session f) (sessions_by_id f)
+      ∙ sym (map-map (λ (s : Session). s.blank) (λ (e : ℕ × Session). e.1) (sessions_by_id f))
+      ∙ ap (map (λ (s : Session). s.blank)) (unnumbered 1 f.sessions)
 
   pub opened_audited
       : IsPermutation (map serial (opened_rows (stored_blanks f))) (map (λ (s : StoredSession). s.serial) (stored_sessions f))

@@ -70,7 +70,10 @@ fn file_command<'a>(alloc: Global, name: &'a str, about: &'a str) -> Result<Comm
 fn book_command<'a>(alloc: Global, name: &'a str, about: &'a str) -> Result<Command<'a>, AllocError>
     ensures { IfOk result (IsCommand (book_command name.entry.now)) }
 {
-    with_argument(file_command(alloc, name, about)?, flag(alloc, "json", OF_JSON))
+    with_argument(
+        file_command(alloc, name, about)?,
+        flag(alloc, "json", OF_JSON),
+    )
 }
 
 fn cards_command<'a>(alloc: Global) -> Result<Command<'a>, AllocError>
