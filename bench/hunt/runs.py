@@ -5,8 +5,8 @@
 
 `./test` runs this script with the programs that it has just proved and built. It takes a few seconds. The parts are: arguments, inputs that
 can't be read, outputs that can't be written, runs on the standard streams, files that are refused, a machine with a simulated server, a server
-over a socket whose files are then reported and read, a long report, a killed server, and files of each schema version. Exit status: 1 if a
-check fails."""
+over a socket whose files are then reported and read, long outputs, a killed server, and files of each schema version. Exit status: 1 if a check
+fails."""
 import os
 import pathlib
 import shutil
@@ -317,9 +317,12 @@ def served(folder: pathlib.Path) -> None:
 
 
 def reported(folder: pathlib.Path) -> None:
-    """Reads a report of 53 kB, over the socket and from the file."""
+    """Reads long outputs: the commands of a batch (340 kB), and its report (53 kB) over the socket and from the file."""
     names = [f"RECORD-{place:025}" for place in range(1_024)]
-    batch = HEADER + "".join(f"{name},F00000000101,1,0,0,0101027000\n" for name in names)
+    grouping = "01017F" + "00" * 127
+    batch = HEADER + "".join(f"{name},F00000000101,1,0,0,{grouping}\n" for name in names)
+    commands = [line for name in names for line in (f"record {name}", "00A4040006F00000000101", f"80E2800082{grouping}")]
+    expect("the long plan", run(PERSOD, "plan", typed=batch, level=""), Ran(0, commands, []))
     counts = {"records": 1_024, "waiting": 1_024, "running": 0, "failed": 0, "withdrawn": 0, "good": 0, "sessions": 0, "spoiled": 0}
     lines = ["batch B1", "product P1", "state open", *(f"record {name} waiting 0 -" for name in names)]
     lines += [f"{label:<9} {count:>10}" for label, count in counts.items()]

@@ -19,7 +19,7 @@ use Rattle.subcommands.specs.Joins.{wanted_of}
 use Rattle.subcommands.specs.Runs.{Runs, product_of}
 use Rattle.subcommands.specs.declared.end.End.{End}
 use Rattle.subcommands.proofs.RunLemmas.{plans_of}
-use Rattle.persod.specs.Tasks.{EndsOver, Obeys, ReportsBatch, ServesOver, end_of_taken}
+use Rattle.persod.specs.Tasks.{EndsOver, Obeys, ReportsOver, ServesOver, end_of_taken}
 use Rattle.persod.specs.declared.tasks.ReportTask.{ReportTask}
 use Rattle.persod.specs.declared.tasks.ServeTask.{ServeTask}
 
@@ -40,12 +40,12 @@ module _ {D : Type 0} {g : Ghosts D} {image : Image} {IsFresh : Bool → D → T
       let over = subst (λ (x : Wanted). ServesOver g image IsFresh x task end) any serves in
       subst (λ (x : Words). Obeys g image IsFresh task.level x end) (sym is) (task, at, refl, refl, refl, over)
 
-  pub obeys_report : (task : ReportTask) (w : Words) (db : String Global) (wanted : Wanted) (level : Level) (end : End) → w ≡ words.Report db task.batch → wanted ≡ wanted_of w
-      → EndsOver g image IsFresh wanted (ReportsBatch task) end → Obeys g image IsFresh level w end
-  obeys_report task w db wanted level end is wants ends =
+  pub obeys_report : (w : Words) (db : String Global) (batch : List ℕ) (wanted : Wanted) (level : Level) (end : End) → w ≡ words.Report db batch → wanted ≡ wanted_of w
+      → (task : ReportTask) × (task.batch ≡ batch) × ReportsOver g image IsFresh wanted task end → Obeys g image IsFresh level w end
+  obeys_report w db batch wanted level end is wants reports =
       let ours : wanted ≡ Ours = wants ∙ ap wanted_of is in
-      let over = subst (λ (x : Wanted). EndsOver g image IsFresh x (ReportsBatch task) end) ours ends in
-      subst (λ (x : Words). Obeys g image IsFresh level x end) (sym is) (task, refl, over)
+      let over = subst (λ (x : Wanted). ReportsOver g image IsFresh x reports.0 end) ours reports.2 in
+      subst (λ (x : Words). Obeys g image IsFresh level x end) (sym is) (reports.0, reports.1, over)
 
 module _ {D : Type 0} (g : Ghosts D) (image : Image) (IsFresh : Bool → D → Type 0) (level : Level) where
   pub obeys_streams : {E : Type 0} (contents : E → Option (List ℕ)) (old new : EventLog E) (w : Words) (end : End) → Runs contents w None None None old new end → Obeys g image IsFresh level w end

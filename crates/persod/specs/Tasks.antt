@@ -24,6 +24,7 @@ use Rattle.reports.specs.Answers.{MayReport, Reports, store_answer}
 use Rattle.reports.specs.Report.{report_text}
 use Rattle.reports.specs.declared.fault.AccountFault.{AccountFault}
 use Rattle.schema.specs.Stores.{connection, stands_for}
+use Rattle.schema.specs.declared.store.SqlStore.{SqlStore}
 use Rattle.server.specs.Exchanges.{Exchange, ServesAll, tries}
 use Rattle.server_run.specs.ObservedRuns.{NotesRun}
 use Rattle.server_run.specs.ServerLines.{WritesLines}
@@ -125,17 +126,27 @@ exchanges_of (inl serves) = serves.exchanges
 exchanges_of (inr lacks) = []
 
 module _ {D : Type 0} {g : Ghosts D} (image : Image) (wanted : Wanted) where
-  -- Connections were served over the store in the files. If the files held the contents of the runs
-  -- before, or if this is the first run, the store was opened with these contents. Afterwards the
-  -- files hold the contents of all runs, whether the run ends with an ordinary exit or a crash.
+  -- The store `first` was opened over the connection `conn`, `last` is the store at the end of the
+  -- run, and the arrivals `tried` were tried. If the files held the contents of the runs before, or
+  -- if this is the first run, the store was opened with these contents. Afterwards the files hold
+  -- the contents of all runs, whether the run ends with an ordinary exit or a crash.
+  pub record KeepsFiles (conn : Held (FileStore D g)) (first last : SqlStore (FileStore D g) over_files) (tried : List Tried) : Type 0 where
+    pub begins : HasCleanDisk (file_state (connection first)) → (c : Contents) → IsOpenedWith wanted (file_state conn).now c
+        → AreSound c × ∥ StartsAfterRuns (stands_for over_files first) c [] ∥₁
+    pub finds : HasCleanDisk (file_state (connection first)) → (c : Contents) (runs : List (List Tried)) → HoldRuns image c runs
+        → ∥ StartsAfterRuns (stands_for over_files first) c runs ∥₁
+    pub keeps : (c : Contents) (runs : List (List Tried)) (left : Image) → AreSound c → ∥ StartsAfterRuns (stands_for over_files first) c runs ∥₁
+        → IsLeftBy (connection last) left → HoldRuns left c (runs ++ tried ∷ [])
+
+  -- Connections were served over the store in the files.
   pub record KeepsRuns (task : ServeTask) (end : End) (conn : Held (FileStore D g)) : Type 0 where
     pub run : RunsOver conn (MayHaveCommits image) wanted (Serves task) end
-    pub begins : HasCleanDisk (file_state (connection run.store)) → (c : Contents) → IsOpenedWith wanted (file_state conn).now c
-        → AreSound c × ∥ StartsAfterRuns (stands_for over_files run.store) c [] ∥₁
-    pub finds : HasCleanDisk (file_state (connection run.store)) → (c : Contents) (runs : List (List Tried)) → HoldRuns image c runs
-        → ∥ StartsAfterRuns (stands_for over_files run.store) c runs ∥₁
-    pub keeps : (c : Contents) (runs : List (List Tried)) (left : Image) → AreSound c → ∥ StartsAfterRuns (stands_for over_files run.store) c runs ∥₁
-        → IsLeftBy (connection run.ran.0) left → HoldRuns left c (runs ++ tries (exchanges_of run.ran.1) ∷ [])
+    pub files : KeepsFiles conn run.store run.ran.0 (tries (exchanges_of run.ran.1))
+
+  -- A batch was reported over the store in the files.
+  pub record KeepsReported (task : ReportTask) (end : End) (conn : Held (FileStore D g)) : Type 0 where
+    pub run : RunsOver conn (MayHaveCommits image) wanted (ReportsBatch task) end
+    pub files : KeepsFiles conn run.store run.ran.0 []
 
   -- The database is refused, and its files still hold the contents of the runs before.
   pub record RefusesRuns (fault : FileFault) (conn : Held (FileStore D g)) : Type 0 where
@@ -144,14 +155,20 @@ module _ {D : Type 0} {g : Ghosts D} (image : Image) (wanted : Wanted) where
     pub keeps : (c : Contents) (runs : List (List Tried)) (left : Image) → HoldRuns image c runs → IsLeftByCrash after left → HoldRuns left c runs
 
 module _ {D : Type 0} (g : Ghosts D) (image : Image) (IsFresh : Bool → D → Type 0) (wanted : Wanted) where
-  -- The fault says why no server ran.
-  abbrev pub IsNotServed : FileFault → Type 0
-  IsNotServed fault = IsAbsent wanted fault ⊎ (IsNotBegun g image IsFresh fault ⊎ OverFiles g image (RefusesRuns image wanted fault))
+  -- The fault says why no task ran.
+  abbrev pub IsNotRun : FileFault → Type 0
+  IsNotRun fault = IsAbsent wanted fault ⊎ (IsNotBegun g image IsFresh fault ⊎ OverFiles g image (RefusesRuns image wanted fault))
 
-  -- The server ran over the store in the files, and has the end `end`. Or it didn't run, and `end`
-  -- is the end for the fault that says why.
-  pub record ServesOver (task : ServeTask) (end : End) : Type 0 where
-    pub how : OverFiles g image (KeepsRuns image wanted task end) ⊎ ((fault : FileFault) × (end ≡ end_of_file fault) × IsNotServed fault)
+  -- A task ran over the store in the files, and `Keeps` is true of the connection. Or no task ran,
+  -- and `end` is the end for the fault that says why.
+  pub record KeepsOver (Keeps : Held (FileStore D g) → Type 0) (end : End) : Type 0 where
+    pub how : OverFiles g image Keeps ⊎ ((fault : FileFault) × (end ≡ end_of_file fault) × IsNotRun fault)
+
+  abbrev pub ServesOver : ServeTask → End → Type 0
+  ServesOver task end = KeepsOver (KeepsRuns image wanted task end) end
+
+  abbrev pub ReportsOver : ReportTask → End → Type 0
+  ReportsOver task end = KeepsOver (KeepsReported image wanted task end) end
 
 -- ---- a run of the program
 
@@ -161,7 +178,7 @@ module _ {D : Type 0} (g : Ghosts D) (image : Image) (IsFresh : Bool → D → T
   abbrev pub Obeys : Level → Words → End → Type 0
   Obeys level (words.Serve db port turns) end =
       (task : ServeTask) × (task.path.now ≡ string_bytes db) × (task.port ≡ port) × (task.turns ≡ turns) × (task.level ≡ level) × ServesOver g image IsFresh Any task end
-  Obeys level (words.Report db batch) end = (task : ReportTask) × (task.batch ≡ batch) × EndsOver g image IsFresh Ours (ReportsBatch task) end
+  Obeys level (words.Report db batch) end = (task : ReportTask) × (task.batch ≡ batch) × ReportsOver g image IsFresh Ours task end
   Obeys level (words.Feed port start) end = Feeds start None None None None None end
   Obeys level (words.Plan max low check) end = Plans (product_of max low check) None None None end
   Obeys level words.Drill end = DrillRuns None None None end

@@ -1,5 +1,4 @@
 use Rattle.sqlite.specs.WalFiles.{image_at}
-use Rattle.persod.specs.declared.tasks.ReportTask.{ReportTask}
 use Rattle.persod.specs.declared.tasks.ServeTask.{ServeTask}
 use Rattle.persod.proofs.Obeying.{obeys_report, obeys_serve, obeys_streams}
 use Rattle.persod.proofs.obey_noted.Goals as goal
@@ -11,8 +10,7 @@ returns-in-Serve g c =
 
 pub returns-in-Report : goal.returns-in-Report
 returns-in-Report g c =
-    let task : ReportTask = record { rt = c.args.rt; batch = c.in-Report.batch } in
-    obeys_report task c.args.words c.in-Report.db c.wanted_of-wanted.result c.args.level c.over_file.result c.in-Report.is c.wanted_of-wanted.ensures c.over_file.ensures
+    obeys_report c.args.words c.in-Report.db c.in-Report.batch c.wanted_of-wanted.result c.args.level c.report.result c.in-Report.is c.wanted_of-wanted.ensures c.report.ensures
 
 pub returns-in-Feed : goal.returns-in-Feed
 returns-in-Feed g c = rw c.in-Feed.is c.feed.ensures.feeds
