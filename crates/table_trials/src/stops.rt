@@ -221,7 +221,7 @@ fn check_again<S: Alter + Drop>(
 // A run that met a stop after `answered` completed steps. It is then repeated if `sends_again` is
 // true.
 #[derive(Clone, Copy)]
-struct Stopped<'a> {
+struct MetStop<'a> {
     run: &'a Run,
     answered: usize,
     sends_again: bool,
@@ -233,31 +233,26 @@ struct Stopped<'a> {
 fn check_over<S: Alter + Drop>(
     rt: &impl Abort,
     alloc: Global,
-    stopped: &Stopped<'_>,
+    met: &MetStop<'_>,
     mut conn: Connection<S>,
 ) -> Result<(), Fail> {
-    let steps = steps_of(rt, alloc, stopped.run, stopped.answered, &mut conn)?;
-    if !stopped.sends_again {
+    let steps = steps_of(rt, alloc, met.run, met.answered, &mut conn)?;
+    if !met.sends_again {
         return Ok(());
     }
     if steps > 0 {
-        return check_again(rt, alloc, stopped.run, steps, adopted(alloc, conn)?);
+        return check_again(rt, alloc, met.run, steps, adopted(alloc, conn)?);
     }
     match created(alloc, conn) {
-        Ok(store) => check_again(rt, alloc, stopped.run, steps, store),
+        Ok(store) => check_again(rt, alloc, met.run, steps, store),
         Err(_) => Err(Fail::new("no tables are made")),
     }
 }
 
 // Opens the files that remain, and checks their rows.
-fn check_left(
-    rt: &impl Abort,
-    alloc: Global,
-    stopped: &Stopped<'_>,
-    left: &Left,
-) -> Result<(), Fail> {
+fn check_left(rt: &impl Abort, alloc: Global, met: &MetStop<'_>, left: &Left) -> Result<(), Fail> {
     match open(alloc, left, NO_STOP) {
-        Ok(conn) => check_over(rt, alloc, stopped, conn),
+        Ok(conn) => check_over(rt, alloc, met, conn),
         Err(_) => Err(Fail::new("what is left isn't opened")),
     }
 }
@@ -283,12 +278,12 @@ fn has_met(rt: &impl Abort, alloc: Global, run: &Run, stop: Stop) -> Result<bool
     let exchanges = run.exchanges.as_slice();
     let made = steps_before_stop(rt, alloc, exchanges, stop)?;
     for (place, left) in made.ended.lefts.iter().enumerate() {
-        let stopped = Stopped {
+        let met = MetStop {
             run,
             answered: made.steps,
             sends_again: place == 0,
         };
-        check_left(rt, alloc, &stopped, left)?;
+        check_left(rt, alloc, &met, left)?;
     }
     Ok(made.steps <= exchanges.len() || !made.ended.is_closed)
 }
