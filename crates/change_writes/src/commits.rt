@@ -6,16 +6,17 @@ ghost use Rattle.sql_base.specs.Ends.{Ends, IsKept, IsLeft};
 ghost use Rattle.sql_rows.specs.Image.{Moves};
 ghost use Rattle.sql_rows.specs.Writes.{Writes};
 ghost use Rattle.table_rows.specs.After.{rows_written};
-ghost use Rattle.table_rows.specs.Kept.{kept_reply};
+ghost use Rattle.job_facts.specs.Kept.{kept_reply};
 ghost use Rattle.change_writes.specs.Writable.{IsWritable};
 
 use crate::changes::write_change;
 use crate::writable::is_writable;
+use job_facts::Entry;
 use row_writes::add_reply;
 use sql_base::laws;
 use sqlite::{Alter, Connection, Error, Transaction};
 use std::alloc::Global;
-use table_rows::{Entry, Writing};
+use table_rows::Writing;
 
 // Writes the change or release and its reply, in an open transaction.
 fn write_all<S: Alter>(

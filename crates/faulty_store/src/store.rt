@@ -1,8 +1,8 @@
 //! A store of lists with a faulty device.
 use crate::device::{Device, Fault, Plan};
 use job_facts::{
-    BatchRow, BatchSize, BatchTotals, BlankTotals, Change, FaultCounts, JobStore, KeptReply, Lot,
-    RecordLine, RecordState, SegmentRow, ServerStore, SessionRow, StoreFault,
+    BatchRow, BatchSize, BatchTotals, BlankTotals, Change, Entry, FaultCounts, JobStore, KeptReply,
+    Lot, RecordLine, RecordState, SegmentRow, ServerStore, SessionRow, StoreFault,
 };
 use list_store::ListStore;
 use std::alloc::Global;
@@ -225,32 +225,15 @@ impl JobStore for FaultyStore {
         self.lists.mark(client)
     }
 
-    fn commit(
-        &mut self,
-        client: &Name,
-        number: u64,
-        ask: &[u8],
-        status: u16,
-        body: &[u8],
-        change: &Change<'_>,
-    ) -> Result<(), StoreFault> {
+    fn commit(&mut self, entry: &Entry<'_>, change: &Change<'_>) -> Result<(), StoreFault> {
         self.turn()?;
-        self.lists
-            .commit(client, number, ask, status, body, change)?;
+        self.lists.commit(entry, change)?;
         self.device.end_write()
     }
 
-    fn release(
-        &mut self,
-        client: &Name,
-        number: u64,
-        ask: &[u8],
-        status: u16,
-        body: &[u8],
-        mark: u64,
-    ) -> Result<(), StoreFault> {
+    fn release(&mut self, entry: &Entry<'_>, mark: u64) -> Result<(), StoreFault> {
         self.turn()?;
-        self.lists.release(client, number, ask, status, body, mark)?;
+        self.lists.release(entry, mark)?;
         self.device.end_write()
     }
 }

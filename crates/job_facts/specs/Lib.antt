@@ -8,6 +8,7 @@ pub mod Steps
 pub mod Sound
 pub mod Handing
 pub mod Contents
+pub mod Kept
 pub mod Store
 pub mod Reopening
 pub use Rattle.store_data.specs.Cursor

@@ -3,6 +3,7 @@
 #![tactic(auto)]
 
 mod change;
+mod entry;
 mod facts;
 mod lots;
 mod refusal;
@@ -14,6 +15,7 @@ mod server_store;
 mod store;
 
 pub use change::{Change, NewBatch, NewSession, NewWord};
+pub use entry::Entry;
 pub use facts::{Lot, RecordState, SessionState};
 pub use lots::{any_overlaps, lot_among};
 pub use refusal::{MACHINE_BUSY, NUMBER_RELEASED, Refusal};

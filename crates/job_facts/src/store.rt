@@ -2,6 +2,7 @@
 ghost use Rattle.std.specs.Prelude.{◌≡◌};
 
 use crate::change::Change;
+use crate::entry::Entry;
 use crate::facts::{Lot, RecordState};
 use crate::rows::{
     BatchRow, BatchSize, BatchTotals, BlankTotals, KeptReply, RecordLine, SegmentRow, SessionRow,
@@ -49,9 +50,10 @@ pub trait JobStore {
     ghost use Rattle.job_facts.specs.declared.rows.SegmentRow.{SegmentRow as SegmentRowValue};
     ghost use Rattle.job_facts.specs.declared.rows.SessionRow.{SessionRow as SessionRowValue};
     ghost use Rattle.job_facts.specs.Accounts.{batch_totals, blank_totals, record_lines};
-    ghost use Rattle.job_facts.specs.Contents.{AreSound, Contents, Entry, IsOwed, IsOwedRelease};
+    ghost use Rattle.job_facts.specs.Contents.{AreSound, Contents, IsOwed, IsOwedRelease};
     ghost use Rattle.job_facts.specs.Contents.{committed, entry_of, mark_of, released};
     ghost use Rattle.job_facts.specs.Contents.{reply_of_entry};
+    ghost use Rattle.job_facts.specs.Kept.{kept_reply};
     ghost use Rattle.job_facts.specs.Rows.{batch_has, batch_row_of, batch_size_of, segment_row_of};
     ghost use Rattle.job_facts.specs.Rows.{session_row_of};
     ghost use Rattle.job_facts.specs.States.{any_overlaps, first_waiting, is_batch_finished};
@@ -218,51 +220,23 @@ pub trait JobStore {
     ///
     /// If the call fails, the contents of the store are unchanged. An open after a crash then finds
     /// what it could find before the call, or the contents with the change and the reply.
-    fn commit(
-        &mut self,
-        client: &Name,
-        number: u64,
-        ask: &[u8],
-        status: u16,
-        body: &[u8],
-        change: &Change<'_>,
-    ) -> Result<(), StoreFault>
-        requires most { number < 10 ^ 18 }
-        ensures all_or_nothing { let entry : Entry = record {
-          client = client.now;
-          number = number;
-          ask = ask.now;
-          status = status;
-          body = body.now;
-        } in
-            Commits (state self.old) (state self.new) result (IsOwed change.now entry)
-            (λ c. committed c change.now entry) }
+    fn commit(&mut self, entry: &Entry<'_>, change: &Change<'_>) -> Result<(), StoreFault>
+        requires most { entry.now.number < 10 ^ 18 }
+        ensures all_or_nothing { let kept = kept_reply entry.now in
+            Commits (state self.old) (state self.new) result (IsOwed change.now kept)
+            (λ c. committed c change.now kept) }
         ensures faults { CountsFaults (state self.old) (state self.new) result };
 
-    /// Stores the release mark `mark` of the client and the reply to the release in one
+    /// Stores the release mark `mark` of the client in `entry` and the reply to the release in one
     /// transaction, and deletes the client's kept replies up to the mark.
     ///
     /// If the call fails, the contents of the store are unchanged. An open after a crash then finds
     /// what it could find before the call, or the contents after the release.
-    fn release(
-        &mut self,
-        client: &Name,
-        number: u64,
-        ask: &[u8],
-        status: u16,
-        body: &[u8],
-        mark: u64,
-    ) -> Result<(), StoreFault>
-        requires most { number < 10 ^ 18 }
-        ensures all_or_nothing { let entry : Entry = record {
-          client = client.now;
-          number = number;
-          ask = ask.now;
-          status = status;
-          body = body.now;
-        } in
-            Commits (state self.old) (state self.new) result (IsOwedRelease mark entry)
-            (λ c. released c mark entry) }
+    fn release(&mut self, entry: &Entry<'_>, mark: u64) -> Result<(), StoreFault>
+        requires most { entry.now.number < 10 ^ 18 }
+        ensures all_or_nothing { let kept = kept_reply entry.now in
+            Commits (state self.old) (state self.new) result (IsOwedRelease mark kept)
+            (λ c. released c mark kept) }
         ensures faults { CountsFaults (state self.old) (state self.new) result };
 
     /// The contents of the store are sound.

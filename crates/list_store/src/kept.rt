@@ -1,10 +1,11 @@
 //! Copies and finds kept replies.
 ghost use Rattle.std.specs.Prelude.{◌≡◌, option_map};
 ghost use Rattle.job_facts.specs.Contents.{entry_of, reply_of_entry};
+ghost use Rattle.job_facts.specs.Kept.{kept_reply};
 ghost use Rattle.list_store.specs.Results.{GivesOrMemory};
 
 use crate::lists::KeptRow;
-use job_facts::{KeptReply, StoreFault};
+use job_facts::{Entry, KeptReply, StoreFault};
 use std::alloc::Global;
 use store_data::{Bytes, Name};
 
@@ -31,29 +32,15 @@ pub(crate) fn reply_of(
 }
 
 /// Returns a kept reply with copies of the request bytes and the body.
-pub(crate) fn row(
-    alloc: Global,
-    client: &Name,
-    number: u64,
-    ask: &[u8],
-    status: u16,
-    body: &[u8],
-) -> Result<KeptRow, StoreFault>
-    ensures { GivesOrMemory result
-        (λ row. row ≡ record {
-          client = client.now;
-          number = number;
-          ask = ask.now;
-          status = status;
-          body = body.now;
-        }) }
+pub(crate) fn row(alloc: Global, entry: &Entry<'_>) -> Result<KeptRow, StoreFault>
+    ensures { GivesOrMemory result (λ row. row ≡ kept_reply entry.now) }
 {
     Ok(KeptRow {
-        client: *client,
-        number,
-        ask: copied(alloc, ask)?,
-        status,
-        body: copied(alloc, body)?,
+        client: *entry.client,
+        number: entry.number,
+        ask: copied(alloc, entry.ask)?,
+        status: entry.status,
+        body: copied(alloc, entry.body)?,
     })
 }
 

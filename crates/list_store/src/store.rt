@@ -2,8 +2,8 @@
 use crate::lists::{FactLists, KeptMark, KeptRow};
 use crate::{accounts, blanks, changes, kept, marks, names, records, segments, sessions, states};
 use job_facts::{
-    BatchRow, BatchSize, BatchTotals, BlankTotals, Change, FaultCounts, JobStore, KeptReply, Lot,
-    RecordLine, RecordState, SegmentRow, ServerStore, SessionRow, StoreFault, any_overlaps,
+    BatchRow, BatchSize, BatchTotals, BlankTotals, Change, Entry, FaultCounts, JobStore, KeptReply,
+    Lot, RecordLine, RecordState, SegmentRow, ServerStore, SessionRow, StoreFault, any_overlaps,
     lot_among,
 };
 use std::alloc::Global;
@@ -156,34 +156,18 @@ impl JobStore for ListStore {
         Ok(marks::mark_of(&self.marks, client))
     }
 
-    fn commit(
-        &mut self,
-        client: &Name,
-        number: u64,
-        ask: &[u8],
-        status: u16,
-        body: &[u8],
-        change: &Change<'_>,
-    ) -> Result<(), StoreFault> {
-        let row = kept::row(self.alloc, client, number, ask, status, body)?;
+    fn commit(&mut self, entry: &Entry<'_>, change: &Change<'_>) -> Result<(), StoreFault> {
+        let row = kept::row(self.alloc, entry)?;
         self.kept.reserve(1)?;
         changes::change_facts(self.alloc, &mut self.facts, change)?;
         self.kept.push(row).unwrap();
         Ok(())
     }
 
-    fn release(
-        &mut self,
-        client: &Name,
-        number: u64,
-        ask: &[u8],
-        status: u16,
-        body: &[u8],
-        mark: u64,
-    ) -> Result<(), StoreFault> {
-        let reply = kept::row(self.alloc, client, number, ask, status, body)?;
+    fn release(&mut self, entry: &Entry<'_>, mark: u64) -> Result<(), StoreFault> {
+        let reply = kept::row(self.alloc, entry)?;
         self.kept.reserve(1)?;
-        marks::set_mark(&mut self.marks, client, mark)?;
+        marks::set_mark(&mut self.marks, entry.client, mark)?;
         self.kept.push(reply).unwrap();
         marks::drop_released(&mut self.kept, &self.marks);
         Ok(())

@@ -1,13 +1,14 @@
 //! Stores the decision of a request with a new number.
 ghost use Rattle.std.specs.Prelude.{◌≡◌, ◌<◌, ◌^◌, IfOk};
 ghost use Rattle.arrivals.specs.HttpReplies.{body_of, http_reply, http_reply_of, status_of};
-ghost use Rattle.job_facts.specs.Contents.{Entry};
+ghost use Rattle.job_facts.specs.Contents.{Entry as EntryValue};
+ghost use Rattle.job_facts.specs.Kept.{kept_reply};
 ghost use Rattle.job_facts.specs.Store.{Commits, CountsFaults};
 ghost use Rattle.reply_store.specs.Effects.{IsOwedBy, after_effect, done};
 
 use crate::deciding::Effect;
 use arrivals::{Kept, body_of, status_of};
-use job_facts::{JobStore, Reply, StoreFault};
+use job_facts::{Entry, JobStore, Reply, StoreFault};
 use std::alloc::{AllocError, Global};
 use store_data::Name;
 
@@ -43,7 +44,7 @@ pub(crate) fn settle<S: JobStore>(
     effect: &Effect<'_>,
 ) -> Result<Kept, StoreFault>
     requires most { number < 10 ^ 18 }
-    ensures commits { let entry : Entry = record {
+    ensures commits { let entry : EntryValue = record {
       client = client.now;
       number = number;
       ask = ask.now;
@@ -56,41 +57,26 @@ pub(crate) fn settle<S: JobStore>(
     ensures faults { CountsFaults (S.state store.old) (S.state store.new) result }
 {
     let kept = http_reply_of(alloc, reply)?;
-    put(
-        store,
+    let entry = Entry {
         client,
         number,
         ask,
-        kept.status,
-        kept.body.as_slice(),
-        effect,
-    )?;
+        status: kept.status,
+        body: kept.body.as_slice(),
+    };
+    put(store, &entry, effect)?;
     Ok(kept)
 }
 
-fn put<S: JobStore>(
-    store: &mut S,
-    client: &Name,
-    number: u64,
-    ask: &[u8],
-    status: u16,
-    body: &[u8],
-    effect: &Effect<'_>,
-) -> Result<(), StoreFault>
-    requires most { number < 10 ^ 18 }
-    ensures commits { let entry : Entry = record {
-      client = client.now;
-      number = number;
-      ask = ask.now;
-      status = status;
-      body = body.now;
-    } in
-        Commits (S.state store.old) (S.state store.new) result (IsOwedBy effect.now entry)
-        (after_effect effect.now entry) }
+fn put<S: JobStore>(store: &mut S, entry: &Entry<'_>, effect: &Effect<'_>) -> Result<(), StoreFault>
+    requires most { entry.now.number < 10 ^ 18 }
+    ensures commits { let kept = kept_reply entry.now in
+        Commits (S.state store.old) (S.state store.new) result (IsOwedBy effect.now kept)
+        (after_effect effect.now kept) }
     ensures faults { CountsFaults (S.state store.old) (S.state store.new) result }
 {
     match effect {
-        Effect::Changes { change } => store.commit(client, number, ask, status, body, change),
-        Effect::Marks { upto } => store.release(client, number, ask, status, body, *upto),
+        Effect::Changes { change } => store.commit(entry, change),
+        Effect::Marks { upto } => store.release(entry, *upto),
     }
 }

@@ -3,16 +3,15 @@ ghost use Rattle.std.specs.Prelude.{◌<◌, ◌^◌};
 ghost use Rattle.job_facts.specs.Contents.{Mark};
 ghost use Rattle.sql_rows.specs.Writes.{Writes, WritesWithCause};
 ghost use Rattle.table_rows.specs.After.{new_lot};
-ghost use Rattle.table_rows.specs.Kept.{kept_reply};
+ghost use Rattle.job_facts.specs.Kept.{kept_reply};
 ghost use Rattle.table_rows.specs.Tables.{StoredRemake, with_lot, with_mark, with_product};
 ghost use Rattle.table_rows.specs.Tables.{with_remake, with_reply};
 
-use job_facts::Lot;
+use job_facts::{Entry, Lot};
 use sql_base::int;
 use sqlite::types::ValueRef;
 use sqlite::{Alter, Error, Transaction};
 use store_data::{Name, Product};
-use table_rows::Entry;
 
 /// Adds a product.
 pub fn add_product<S: Alter>(tx: &mut Transaction<'_, S>, product: &Product) -> Result<usize, Error>

@@ -9,15 +9,15 @@ ghost use Rattle.change_writes.specs.Writable.{IsWritable};
 ghost use Rattle.store_reads.specs.Known.{IsAllKnownIn, Knows};
 ghost use Rattle.schema.specs.MovesContents.{MovesContents};
 ghost use Rattle.table_rows.specs.After.{rows_written};
-ghost use Rattle.table_rows.specs.Kept.{kept_reply};
+ghost use Rattle.job_facts.specs.Kept.{kept_reply};
 ghost use Rattle.table_rows.specs.Tables.{Tables};
 
 use change_writes::{commit, counters_after};
-use job_facts::Change;
+use job_facts::{Change, Entry};
 use sqlite::{Alter, Connection, Error};
 use std::alloc::Global;
 use store_reads::{Known, writing_of};
-use table_rows::{Entry, Writing};
+use table_rows::Writing;
 
 // Caches the counters that `writing` sets.
 fn note_counters(known: &mut Known, writing: &Writing<'_>)

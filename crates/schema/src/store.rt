@@ -7,15 +7,14 @@ ghost use Rattle.schema.specs.Link.{link};
 use crate::faults::Counts;
 use crate::keeping::{keep, release};
 use job_facts::{
-    BatchRow, BatchSize, BatchTotals, BlankTotals, Change, FaultCounts, JobStore, KeptReply, Lot,
-    RecordLine, RecordState, SegmentRow, SessionRow, StoreFault,
+    BatchRow, BatchSize, BatchTotals, BlankTotals, Change, Entry, FaultCounts, JobStore, KeptReply,
+    Lot, RecordLine, RecordState, SegmentRow, SessionRow, StoreFault,
 };
 use sqlite::{Alter, Connection};
 use std::alloc::Global;
 use store_data::{Name, Product};
 use store_reads as reads;
 use store_reads::Known;
-use table_rows::Entry;
 
 /// A store over a connection to a database with the tables of the current schema. No transaction is
 /// open between its calls. Its cache saves it from reading rows again that can't have changed. If a
@@ -213,45 +212,15 @@ impl<S: Alter> JobStore for SqlStore<S> {
         self.counts.translated(answer)
     }
 
-    fn commit(
-        &mut self,
-        client: &Name,
-        number: u64,
-        ask: &[u8],
-        status: u16,
-        body: &[u8],
-        change: &Change<'_>,
-    ) -> Result<(), StoreFault> {
+    fn commit(&mut self, entry: &Entry<'_>, change: &Change<'_>) -> Result<(), StoreFault> {
         image_laws::same_rows_same_contents();
-        let entry = Entry {
-            client,
-            number,
-            ask,
-            status,
-            body,
-        };
-        let answer = keep(&mut self.conn, &mut self.known, self.alloc, &entry, change);
+        let answer = keep(&mut self.conn, &mut self.known, self.alloc, entry, change);
         self.counts.translated(answer)
     }
 
-    fn release(
-        &mut self,
-        client: &Name,
-        number: u64,
-        ask: &[u8],
-        status: u16,
-        body: &[u8],
-        mark: u64,
-    ) -> Result<(), StoreFault> {
+    fn release(&mut self, entry: &Entry<'_>, mark: u64) -> Result<(), StoreFault> {
         image_laws::same_rows_same_contents();
-        let entry = Entry {
-            client,
-            number,
-            ask,
-            status,
-            body,
-        };
-        let answer = release(&mut self.conn, &self.known, self.alloc, &entry, mark);
+        let answer = release(&mut self.conn, &self.known, self.alloc, entry, mark);
         self.counts.translated(answer)
     }
 }

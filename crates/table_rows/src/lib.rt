@@ -4,11 +4,9 @@
 //! contain them too.
 #![tactic(auto)]
 
-pub mod entry;
 mod rows;
 pub mod writing;
 
-pub use entry::Entry;
 pub use rows::{
     StoredBatch, StoredBlank, StoredGrouping, StoredLot, StoredMark, StoredProduct, StoredRecord,
     StoredRemake, StoredReply, StoredSession, StoredWord, Tables,

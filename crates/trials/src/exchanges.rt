@@ -1,6 +1,8 @@
 //! Helpers of tests: names, a store of lists with some contents, and the inputs of connections.
+ghost use Rattle.std.specs.Prelude.{◌≡◌};
+
 use crate::again::{MayBeOutOfMemory, at_last};
-use job_facts::{Change, JobStore, Lot, NewBatch};
+use job_facts::{Change, Entry, JobStore, Lot, NewBatch};
 use list_store::ListStore;
 use std::alloc::{AllocError, Global};
 use std::test::Fail;
@@ -30,6 +32,19 @@ pub(crate) fn name(text: &str) -> Result<Name, Fail> {
     Ok(Name::new(text.as_bytes()).ok_or("no name")?)
 }
 
+// Returns a reply of `client` with the request number `number`.
+fn entry(client: &Name, number: u64) -> Entry<'_>
+    ensures { result.number ≡ number }
+{
+    Entry {
+        client,
+        number,
+        ask: b"ask",
+        status: 200,
+        body: b"body",
+    }
+}
+
 /// Returns a store with the product P1, the lot L1 of three blanks from serial 1000, and the batch
 /// B1 with one record and one grouping.
 pub(crate) fn stocked(alloc: Global) -> Result<ListStore, Fail> {
@@ -56,9 +71,9 @@ pub(crate) fn stocked(alloc: Global) -> Result<ListStore, Fail> {
     let (product, lot) = (Change::AddsProduct { product }, Change::AddsLot { lot });
     let batch = Change::AddsBatch { batch };
     let mut store = ListStore::new(alloc);
-    at_last!(store.commit(&office, 1, b"ask", 200, b"body", &product))?;
-    at_last!(store.commit(&office, 2, b"ask", 200, b"body", &lot))?;
-    at_last!(store.commit(&office, 3, b"ask", 200, b"body", &batch))?;
+    at_last!(store.commit(&entry(&office, 1), &product))?;
+    at_last!(store.commit(&entry(&office, 2), &lot))?;
+    at_last!(store.commit(&entry(&office, 3), &batch))?;
     Ok(store)
 }
 

@@ -5,7 +5,7 @@ use Rattle.sql_base.specs.Ends.{Ends, IsKept, IsLeft}
 use Rattle.sql_rows.specs.Image.{Moves}
 use Rattle.table_rows.specs.After.{rows_written}
 use Rattle.sql_base.proofs.Ending.{crash_of, ok_of, err_of, dropped, crash_undone}
-use Rattle.table_rows.specs.Kept.{kept_reply}
+use Rattle.job_facts.specs.Kept.{kept_reply}
 use Rattle.change_writes.proofs.commits.commit.Goals as goal
 
 pub returns-clause-ok : goal.returns-clause-ok

@@ -2,7 +2,7 @@ use Rattle.std.proofs.Common.{arith, ◌∙◌}
 use Rattle.sql_base.proofs.Lasting.{outlives}
 use Rattle.sql_rows.specs.Image.{Moves}
 use Rattle.table_rows.specs.After.{rows_after, rows_written}
-use Rattle.table_rows.specs.Kept.{kept_reply}
+use Rattle.job_facts.specs.Kept.{kept_reply}
 use Rattle.table_rows.specs.Tables.{with_reply}
 use Rattle.change_writes.proofs.Parts.{many_then, moved_on}
 use Rattle.change_writes.proofs.commits.write_all.Goals as goal

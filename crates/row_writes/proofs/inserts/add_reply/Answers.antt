@@ -1,6 +1,6 @@
 use Rattle.sql_base.proofs.Ending.{wrote}
 use Rattle.sql_rows.specs.Image.{Moves}
-use Rattle.table_rows.specs.Kept.{kept_reply}
+use Rattle.job_facts.specs.Kept.{kept_reply}
 use Rattle.table_rows.specs.Tables.{with_reply}
 use Rattle.row_writes.proofs.Putting.{reply_added}
 use Rattle.row_writes.proofs.inserts.add_reply.Goals as goal

@@ -1,7 +1,7 @@
 use Rattle.std.proofs.Common.{Result, Ok, arith}
 use Rattle.sqlite.specs.Held.{state}
 use Rattle.sqlite.specs.declared.error.Error.{Error}
-use Rattle.table_rows.specs.Kept.{kept_reply}
+use Rattle.job_facts.specs.Kept.{kept_reply}
 use Rattle.store_reads.proofs.Knowing.{knows_after}
 use Rattle.schema.proofs.Knowing.{knows_made, knows_unmade}
 use Rattle.schema.proofs.Taking.{change_ends, change_left}

@@ -3,7 +3,7 @@ use Rattle.sqlite.specs.Held.{state}
 use Rattle.job_facts.specs.Contents.{IsOwedRelease, released}
 use Rattle.sql_rows.specs.Image.{Moves}
 use Rattle.table_rows.specs.After.{rows_written}
-use Rattle.table_rows.specs.Kept.{kept_reply}
+use Rattle.job_facts.specs.Kept.{kept_reply}
 use Rattle.table_rows.specs.declared.writing.Writing.TheVariants as writing
 use Rattle.store_reads.specs.Known.{known_records}
 use Rattle.store_reads.proofs.Knowing.{known_after}

@@ -1,6 +1,6 @@
--- A row of the table `reply`.
+-- A reply that a store keeps.
 use Rattle.job_facts.specs.Contents.{Entry}
-use Rattle.table_rows.specs.declared.entry.Entry.{Entry as KeptEntry}
+use Rattle.job_facts.specs.declared.entry.Entry.{Entry as KeptEntry}
 
 -- the kept reply: its client and request number, the request bytes, and the status and body of the
 -- reply

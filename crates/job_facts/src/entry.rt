@@ -1,4 +1,4 @@
-//! A kept reply.
+//! A reply that a store keeps.
 use store_data::Name;
 
 /// A kept reply, with its client, its request number and the request bytes (`ask`).
