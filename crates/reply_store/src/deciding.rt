@@ -7,9 +7,8 @@ ghost use Rattle.job_facts.specs.declared.request.Call.TheVariants as call;
 ghost use Rattle.reply_store.specs.Effects.{Decided};
 
 use job_core::decide;
-use job_facts::{Call, Change, JobStore, Refusal, Reply, StoreFault};
+use job_facts::{Arrival, Call, Change, JobStore, Refusal, Reply, StoreFault};
 use std::alloc::Global;
-use store_data::Name;
 
 /// The effect of a request with a new number on the store.
 #[derive(Clone, Copy)]
@@ -20,8 +19,8 @@ pub(crate) enum Effect<'a> {
     Marks { upto: u64 },
 }
 
-/// Returns the reply to `call` and its effect. `mark` is the client's release mark, and `number` is
-/// new. The store is only read.
+/// Returns the reply to `arrival`, whose request number is new, and its effect. `mark` is the
+/// client's release mark. The store is only read.
 ///
 /// # Errors
 ///
@@ -29,23 +28,21 @@ pub(crate) enum Effect<'a> {
 pub(crate) fn decide_call<'a, S: JobStore>(
     alloc: Global,
     store: &mut S,
-    client: &Name,
-    number: u64,
-    call: &'a Call,
+    arrival: &'a Arrival,
     mark: u64,
 ) -> Result<(Reply, Effect<'a>), StoreFault>
-    requires { IsCall call.now }
-    ensures value { Reads (S.state store.old) (S.state store.new) result
-        (λ c answer. mark ≡ mark_of c.marks client.now
-        → Decided c client.now number call.now answer.0 answer.1) }
+    requires { IsCall arrival.now.request }
+    ensures value { let a = arrival.now in Reads (S.state store.old) (S.state store.new) result
+        (λ c answer. mark ≡ mark_of c.marks a.client
+        → Decided c a.client a.number a.request answer.0 answer.1) }
     ensures leaves { LeavesContents (S.state store.old) (S.state store.new) result }
 {
-    match call {
+    match &arrival.request {
         Call::Job { request } => {
-            let (reply, change) = decide(alloc, store, client, request)?;
+            let (reply, change) = decide(alloc, store, &arrival.client, request)?;
             Ok((reply, Effect::Changes { change }))
         }
-        Call::Release { upto } => Ok(release(number, *upto, mark)),
+        Call::Release { upto } => Ok(release(arrival.number, *upto, mark)),
     }
 }
 

@@ -2,12 +2,12 @@
 //! decided, and a repeat gets the kept reply.
 #![tactic(auto)]
 
-ghost use Rattle.std.specs.Prelude.{◌≡◌, ◌≤◌, ◌<◌, ◌^◌, All, IfOk, OnErr, length, map};
+ghost use Rattle.std.specs.Prelude.{◌≡◌, All, IfOk, OnErr, length, map};
 ghost use Rattle.std.specs.List.{zip};
 ghost use Rattle.arrivals.specs.Commands.{HandsOutNext};
-ghost use Rattle.arrivals.specs.Meaning.{http_reply_again, reply_by};
+ghost use Rattle.arrivals.specs.Meaning.{http_reply_again, reply_to};
 ghost use Rattle.arrivals.specs.HttpReplies.{http_reply};
-ghost use Rattle.job_facts.specs.Requests.{IsArrival, IsCall};
+ghost use Rattle.job_facts.specs.Requests.{IsArrival};
 ghost use Rattle.job_facts.specs.Contents.{Contents};
 ghost use Rattle.job_facts.specs.Store.{CountsFaults, IsHonest};
 ghost use Rattle.reply_store.specs.Handled.{Handles};
@@ -20,21 +20,20 @@ mod settling;
 use crate::deciding::decide_call;
 use crate::settling::{http_reply_of, settle};
 pub use arrivals::{Kept, body_of, name_text, status_of};
-use job_facts::{Arrival, Call, JobStore, KeptReply, Refusal, Reply, StoreFault};
+use job_facts::{Arrival, JobStore, KeptReply, Refusal, Reply, StoreFault};
 use std::alloc::{AllocError, Global};
-use store_data::Name;
 
 /// The outcome of an arrival: its response, or the fault of the store.
 pub type Outcome = Result<Kept, StoreFault>;
 
 #[tactic(auto, using(arrivals::proofs::Commands::call_hands_out_next))]
-/// Handles one arrival of `client` with the request number `number` and the request bytes `ask`.
+/// Handles one arrival.
 ///
-/// - If the number is released, the reply is `number-released`, and nothing is stored.
+/// - If its request number is released, the reply is `number-released`, and nothing is stored.
 /// - If the number is used with the same request bytes, the kept reply is returned.
 /// - If the number is used with different request bytes, the reply is `number-reused`, and nothing
 ///   is stored.
-/// - If the number is new, `call` is decided and its reply is kept, even if it is a refusal.
+/// - If the number is new, the request is decided and its reply is kept, even if it is a refusal.
 ///
 /// # Errors
 ///
@@ -43,37 +42,27 @@ pub type Outcome = Result<Kept, StoreFault>;
 pub fn handle<S: JobStore>(
     alloc: Global,
     store: &mut S,
-    client: &Name,
-    number: u64,
-    ask: &[u8],
-    call: &Call,
+    arrival: &Arrival,
 ) -> Result<Kept, StoreFault>
-    requires least { 1 ≤ number }
-    requires most { number < 10 ^ 18 }
-    requires ranged { IsCall call.now }
-    ensures handled { Handles (S.state store.old) (S.state store.new)
-        (record {
-          client = client.now;
-          number = number;
-          ask = ask.now;
-          request = call.now;
-        }) result }
+    requires { IsArrival arrival.now }
+    ensures handled { Handles (S.state store.old) (S.state store.new) (arrived arrival.now) result }
     // A command in the reply is the next one of its record (a lemma about the reference model).
     ensures next { (c : Contents) → (S.state store.old).holds c
-        → HandsOutNext c.facts (reply_by c.facts c.marks client.now number call.now) }
+        → HandsOutNext c.facts (reply_to c.facts c.marks (arrived arrival.now)) }
     ensures faults { CountsFaults (S.state store.old) (S.state store.new) result }
 {
+    let (client, number) = (&arrival.client, arrival.number);
     let mark = store.mark(client)?;
     if number <= mark {
         return Ok(http_reply_of(alloc, &Reply::NumberReleased { mark })?);
     }
     if let Some(kept) = store.kept(client, number)? {
-        return Ok(again(alloc, ask, kept)?);
+        return Ok(again(alloc, arrival.ask.as_slice(), kept)?);
     }
     // The calls that store the reply require that the client is a name.
     store_data::laws::is_a_name(client);
-    let (reply, effect) = decide_call(alloc, store, client, number, call, mark)?;
-    settle(alloc, store, client, number, ask, &reply, &effect)
+    let (reply, effect) = decide_call(alloc, store, arrival, mark)?;
+    settle(alloc, store, arrival, &reply, &effect)
 }
 
 /// Handles `arrivals` in order, and returns the outcome of each.
@@ -100,14 +89,7 @@ pub fn run<S: JobStore>(
     arrivals::same_contents_answer_alike();
     let mut outcomes = Vec::with_capacity(alloc, arrivals.len())?;
     for arrival in arrivals {
-        let outcome = handle(
-            alloc,
-            store,
-            &arrival.client,
-            arrival.number,
-            arrival.ask.as_slice(),
-            &arrival.request,
-        );
+        let outcome = handle(alloc, store, arrival);
         outcomes.push(outcome).unwrap();
     }
     Ok(outcomes)

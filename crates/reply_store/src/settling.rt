@@ -1,16 +1,16 @@
 //! Stores the decision of a request with a new number.
 ghost use Rattle.std.specs.Prelude.{◌≡◌, ◌<◌, ◌^◌, IfOk};
 ghost use Rattle.arrivals.specs.HttpReplies.{body_of, http_reply, http_reply_of, status_of};
-ghost use Rattle.job_facts.specs.Contents.{Entry as EntryValue};
+ghost use Rattle.arrivals.specs.Meaning.{entry_with};
 ghost use Rattle.job_facts.specs.Kept.{kept_reply};
 ghost use Rattle.job_facts.specs.Store.{Commits, CountsFaults};
 ghost use Rattle.reply_store.specs.Effects.{IsOwedBy, after_effect, done};
+ghost use Rattle.reply_store.specs.Runs.{arrived};
 
 use crate::deciding::Effect;
 use arrivals::{Kept, body_of, status_of};
-use job_facts::{Entry, JobStore, Reply, StoreFault};
+use job_facts::{Arrival, Entry, JobStore, Reply, StoreFault};
 use std::alloc::{AllocError, Global};
-use store_data::Name;
 
 /// Returns the response with `reply`.
 ///
@@ -28,8 +28,8 @@ pub(crate) fn http_reply_of(alloc: Global, reply: &Reply) -> Result<Kept, AllocE
     })
 }
 
-/// Stores the reply of a request with a new number together with its effect, and returns the
-/// response.
+/// Stores the reply to `arrival`, whose request number is new, together with its effect, and returns
+/// the response.
 ///
 /// # Errors
 ///
@@ -37,20 +37,12 @@ pub(crate) fn http_reply_of(alloc: Global, reply: &Reply) -> Result<Kept, AllocE
 pub(crate) fn settle<S: JobStore>(
     alloc: Global,
     store: &mut S,
-    client: &Name,
-    number: u64,
-    ask: &[u8],
+    arrival: &Arrival,
     reply: &Reply,
     effect: &Effect<'_>,
 ) -> Result<Kept, StoreFault>
-    requires most { number < 10 ^ 18 }
-    ensures commits { let entry : EntryValue = record {
-      client = client.now;
-      number = number;
-      ask = ask.now;
-      status = status_of reply.now;
-      body = body_of reply.now;
-    } in
+    requires most { arrival.now.number < 10 ^ 18 }
+    ensures commits { let entry = entry_with (arrived arrival.now) reply.now in
         Commits (S.state store.old) (S.state store.new) (done result) (IsOwedBy effect.now entry)
         (after_effect effect.now entry) }
     ensures value { IfOk result (λ k. http_reply k ≡ http_reply_of reply.now) }
@@ -58,9 +50,9 @@ pub(crate) fn settle<S: JobStore>(
 {
     let kept = http_reply_of(alloc, reply)?;
     let entry = Entry {
-        client,
-        number,
-        ask,
+        client: &arrival.client,
+        number: arrival.number,
+        ask: arrival.ask.as_slice(),
         status: kept.status,
         body: kept.body.as_slice(),
     };

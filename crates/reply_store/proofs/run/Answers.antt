@@ -1,9 +1,8 @@
-use Rattle.std.proofs.Common.{rules, ◌≡◌, ℕ, Ok, sym, subst, arith, List, take, map}
+use Rattle.std.proofs.Common.{rules, ◌≡◌, Ok, sym, subst, arith, List, take, map}
 use Rattle.std.proofs.lemmas.Grind.{common_steps}
 use Rattle.std.specs.List.{zip}
 use Rattle.job_facts.specs.Contents.{Contents}
 use Rattle.job_facts.specs.Store.{IsHonest}
-use Rattle.reply_store.specs.Handled.{Handles}
 use Rattle.reply_store.specs.Runs.{arrived, AreNext, Served, Runs}
 use Rattle.reply_store.proofs.Running.{next_more, next_none, runs_more, runs_none, zip_more}
 use Rattle.reply_store.proofs.run.Goals as goal
@@ -25,7 +24,7 @@ loop-arrival-preserved g c =
     let so_far = zip (map arrived (take i c.args.arrivals.now)) c.loop-arrival.outcomes.items in
     let a = c.arrival-item.result in
     let r = c.handle-outcome.result in
-    let handled = subst (λ (ask : List ℕ). Handles (state c.loop-arrival.store) (state c.handle-outcome.new.store) (record { client = a.client; number = a.number; ask = ask; request = a.request }) r) c.as_slice.ensures c.handle-outcome.ensures.handled in
+    let handled = c.handle-outcome.ensures.handled in
     let more = sym (zip_more c.args.arrivals.now i a c.loop-arrival.outcomes.items c.push.new.self.items r (omega arith) c.arrival-item.is (omega (arith, c.loop-arrival.outcomes.ok.0, c.loop-arrival.invariant.count))
     (let worked : c.push.result ≡ Ok c.unwrap.result = c.unwrap.ensures in rw worked at c.push.ensures.items)) in
     record {
