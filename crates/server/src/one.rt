@@ -2,11 +2,6 @@
 ghost use Rattle.std.specs.Prelude.{◌≡◌, ℕ, List};
 ghost use Rattle.std.specs.Io.KnownBytes.{Appends};
 ghost use Rattle.job_facts.specs.Requests.{IsArrival};
-ghost use Rattle.arrivals.specs.Meaning.{reply_to};
-ghost use Rattle.job_facts.specs.Contents.{Contents};
-ghost use Rattle.arrivals.specs.Commands.{HandsOutNext};
-ghost use Rattle.reply_store.specs.Handled.{Handles};
-ghost use Rattle.reply_store.specs.Runs.{arrived};
 ghost use Rattle.arrivals.specs.HttpReplies.{http_reply};
 ghost use Rattle.http_requests.specs.Asks.{IsInRange};
 ghost use Rattle.http_messages.specs.Messages.{Agrees};
@@ -21,7 +16,7 @@ use crate::reply::{refuse, send};
 use crate::served::{End, Served};
 use http_messages::{ByteSource, Content, FixedReply};
 use http_requests::{Asked, Meaning, Routes, Wanted, read_meaning};
-use job_facts::{Arrival, JobStore, StoreFault};
+use job_facts::{Arrival, JobStore};
 use reply_store::{Kept, handle};
 use std::alloc::Global;
 use std::io::Write;
@@ -106,34 +101,13 @@ fn serve_arrival<S: JobStore, W: Write>(
         × MayServe (Asks (asked.Arrival arrival.now)) (S.state store.old)
         (S.state store.new) result written }
 {
-    match handle_arrival(alloc, store, arrival) {
+    match handle(alloc, store, arrival) {
         Ok(kept) => Served {
             end: send_kept(writer, &kept),
             decided: true,
         },
         Err(_) => refuse(writer, FixedReply::Storage),
     }
-}
-
-fn handle_arrival<S: JobStore>(
-    alloc: Global,
-    store: &mut S,
-    arrival: &Arrival,
-) -> Result<Kept, StoreFault>
-    requires { IsArrival arrival.now }
-    ensures handled { Handles (S.state store.old) (S.state store.new) (arrived arrival.now) result }
-    ensures next { (c : Contents) → (S.state store.old).holds c
-        → HandsOutNext c.facts (reply_to c.facts c.marks (arrived arrival.now)) }
-{
-    let ask = arrival.ask.as_slice();
-    handle(
-        alloc,
-        store,
-        &arrival.client,
-        arrival.number,
-        ask,
-        &arrival.request,
-    )
 }
 
 fn send_kept<W: Write>(writer: &mut W, kept: &Kept) -> End
