@@ -74,8 +74,7 @@ pub(crate) fn reply_to<S: JobStore>(
 ) -> Result<Kept, StoreFault>
     requires { IsArrival arrival.now }
 {
-    let (client, ask) = (&arrival.client, arrival.ask.as_slice());
-    handle(alloc, store, client, arrival.number, ask, &arrival.request)
+    handle(alloc, store, arrival)
 }
 
 /// Checks that `kept` has the status and the body of the reply of `exchange`.

@@ -73,15 +73,7 @@ fn handled<S: JobStore>(
 ) -> Result<Vec<u8>, CaseFault>
     requires { IsArrival arrival.now }
 {
-    let ask = arrival.ask.as_slice();
-    match handle(
-        alloc,
-        store,
-        &arrival.client,
-        arrival.number,
-        ask,
-        &arrival.request,
-    ) {
+    match handle(alloc, store, arrival) {
         Ok(kept) => Ok(reply_bytes(alloc, kept.status, JSON, None, kept.body.as_slice())?),
         Err(_) => Err(CaseFault::Memory),
     }
