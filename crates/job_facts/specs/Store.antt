@@ -1,8 +1,18 @@
 -- The state of a store, and the effect of its calls on this state.
-use Rattle.std.specs.Prelude.{◌≡◌, ◌⊎◌, ◌≤◌, ◌+◌, ◌-◌, ◌^◌, ℕ, min, Option, None, Some, Result, Ok, Err, IfOk, OnOk, OnErr}
+use Rattle.std.specs.Prelude.{◌≡◌, ◌⊎◌, ◌≤◌, ◌+◌, ◌-◌, ◌^◌, ℕ, Bool, false, true, List, [], ◌∷◌, ◌++◌, min, Option, None, Some, Result, Ok, Err, IfOk, OnOk, OnErr}
 use Rattle.job_facts.specs.declared.store.StoreFault.{StoreFault}
 use Rattle.job_facts.specs.declared.store.StoreFault.TheVariants.{Memory, Device, Full}
-use Rattle.job_facts.specs.Contents.{AreSame, Contents}
+use Rattle.job_facts.specs.Contents.{AreSame, Contents, Entry}
+
+-- the request log of a store: a line for each reply that it has committed, in order
+pub record Log : Type 0 where
+  pub lines : List Entry
+  -- A shut request log gets no line before the next start.
+  pub shut : Bool
+
+-- the request log `l` with the lines `es` at its end
+abbrev pub with_lines : List Entry → Log → Log
+with_lines es l = record l { lines = l.lines ++ es }
 
 -- the state of a store
 pub record State : Type 1 where
@@ -19,6 +29,8 @@ pub record State : Type 1 where
   -- the possible results of opening the store after a crash now: contents, or `None` if the open is
   -- refused
   pub may_leave : Option Contents → Type 0
+  -- A start now reads this request log. If the store keeps no request log, it reads none.
+  pub log : Log → Type 0
 
 -- `d` is the result of an open that isn't refused and finds the contents `c`, with sets in any
 -- order.
@@ -32,12 +44,13 @@ IsHonest s = s.doubts ≡ 0
 
 -- ---- the effect of calls
 
--- The call doesn't change the contents, and adds no possible result of an open after a crash,
--- whether it succeeds or fails.
+-- The call doesn't change the contents or the request log, and adds no possible result of an open
+-- after a crash, whether it succeeds or fails.
 pub record Stays (old new : State) : Type 0 where
   pub doubts : old.doubts ≤ new.doubts
   pub contents : IsHonest new → (c : Contents) → old.holds c → new.holds c
   pub crash : IsHonest new → (d : Option Contents) → new.may_leave d → old.may_leave d
+  pub log : (l : Log) → old.log l → new.log l
 
 -- If the device is correct and the call succeeds, `P` is true of the contents and the result.
 abbrev pub Reads : {T : Type 0} → State → State → Result T StoreFault → (Contents → T → Type 0) → Type 0
@@ -76,9 +89,14 @@ pub record LeavesContents {T : Type 0} (old new : State) (result : Result T Stor
   pub stays : Stays old new
   pub faults : CountsFaults old new result
 
--- If the call succeeds, the contents become `after` of the old contents. If it fails, they are
--- unchanged.
-pub record Commits (old new : State) (result : Result (Unit {0}) StoreFault) (Owed : Contents → Type 0) (after : Contents → Contents) : Type 0 where
+-- If the commit of the reply `e` fails, the request log `l` becomes `m`: it is unchanged, or it is
+-- shut and may have the further line `e`.
+abbrev pub MayWrite : Entry → Log → Log → Type 0
+MayWrite e l m = (m ≡ l) ⊎ ((l.shut ≡ false) × (m.shut ≡ true) × ((m.lines ≡ l.lines) ⊎ (m.lines ≡ l.lines ++ e ∷ [])))
+
+-- The call commits the reply `e`. If it succeeds, the contents become `after` of the old contents.
+-- If it fails, they are unchanged.
+pub record Commits (old new : State) (result : Result (Unit {0}) StoreFault) (e : Entry) (Owed : Contents → Type 0) (after : Contents → Contents) : Type 0 where
   pub doubts : old.doubts ≤ new.doubts
   pub ok : OnOk result (IsHonest new → (c : Contents) → old.holds c → Owed c → new.holds (after c))
   pub err : OnErr result (IsHonest new → (c : Contents) → old.holds c → Owed c → new.holds c)
@@ -86,3 +104,10 @@ pub record Commits (old new : State) (result : Result (Unit {0}) StoreFault) (Ow
   pub crash : IsHonest new → (c : Contents) (d : Option Contents) → old.holds c → Owed c → new.may_leave d → old.may_leave d ⊎ IsFound d (after c)
   -- If the call succeeds, an open after a crash finds the new contents.
   pub settled : OnOk result (IsHonest new → (c : Contents) (d : Option Contents) → old.holds c → Owed c → new.may_leave d → IsFound d (after c))
+  -- If the call succeeds, the request log wasn't shut, and its new last line is `e`.
+  pub logged : OnOk result ((l : Log) → old.log l → (l.shut ≡ false) × new.log (with_lines (e ∷ []) l))
+  pub unlogged : OnErr result ((l : Log) → old.log l → (m : Log) × new.log m × MayWrite e l m)
+  -- If an open after a crash finds what it couldn't find before the call, the request log has the
+  -- line `e`.
+  pub covered : IsHonest new → (c : Contents) (d : Option Contents) → old.holds c → Owed c → new.may_leave d → (l : Log) → old.log l
+      → old.may_leave d ⊎ (IsFound d (after c) × ((m : Log) × new.log m × (m.lines ≡ l.lines ++ e ∷ [])))

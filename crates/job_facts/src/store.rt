@@ -223,7 +223,7 @@ pub trait JobStore {
     fn commit(&mut self, entry: &Entry<'_>, change: &Change<'_>) -> Result<(), StoreFault>
         requires most { entry.now.number < 10 ^ 18 }
         ensures all_or_nothing { let kept = kept_reply entry.now in
-            Commits (state self.old) (state self.new) result (IsOwed change.now kept)
+            Commits (state self.old) (state self.new) result kept (IsOwed change.now kept)
             (λ c. committed c change.now kept) }
         ensures faults { CountsFaults (state self.old) (state self.new) result };
 
@@ -235,7 +235,7 @@ pub trait JobStore {
     fn release(&mut self, entry: &Entry<'_>, mark: u64) -> Result<(), StoreFault>
         requires most { entry.now.number < 10 ^ 18 }
         ensures all_or_nothing { let kept = kept_reply entry.now in
-            Commits (state self.old) (state self.new) result (IsOwedRelease mark kept)
+            Commits (state self.old) (state self.new) result kept (IsOwedRelease mark kept)
             (λ c. released c mark kept) }
         ensures faults { CountsFaults (state self.old) (state self.new) result };
 
