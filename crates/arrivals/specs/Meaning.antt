@@ -90,6 +90,11 @@ abbrev pub entries_of : Facts → List Mark → List Arrived → List Entry
 entries_of f marks [] = []
 entries_of f marks (a ∷ rest) = entry_with a (reply_to f marks a) ∷ entries_of (facts_with f a) (marks_with marks a) rest
 
+-- the lines that a request log gets for a list of arrivals: the replies to those with a new number,
+-- in order, even if a release has discarded them
+abbrev pub told : Contents → List Arrived → List Entry
+told c arrivals = entries_of c.facts c.marks (firsts (map number_of c.kept) c.marks arrivals)
+
 -- the contents after a list of arrivals: the first arrival with each number has its effect, and the
 -- kept replies up to the final release marks are discarded
 abbrev pub contents_after : Contents → List Arrived → Contents
