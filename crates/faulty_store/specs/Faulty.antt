@@ -12,7 +12,7 @@ use Rattle.faulty_store.specs.declared.store.FaultyStore.{FaultyStore}
 
 -- The state of a store with the contents `c`. After it is shut, only the soundness of its contents
 -- is known. An open after a crash finds `c`, because every write that reached the device is in the
--- lists.
+-- lists. It keeps no request log.
 abbrev pub state_of : Contents → Device → State
 state_of c device = record {
   holds = λ d. AreSound d × (device.is_shut ≡ false → c ≡ d);
@@ -20,6 +20,7 @@ state_of c device = record {
   failed = device.failed;
   full = device.full;
   may_leave = λ d. d ≡ Some c;
+  log = λ l. ⊥;
 }
 
 abbrev pub state : FaultyStore → State

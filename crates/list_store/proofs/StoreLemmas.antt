@@ -13,9 +13,9 @@ pub found : (old c : Contents) → old ≡ c → (d : Option Contents) → d ≡
 found old c is d at = subst (λ x. IsFound x c) (sym (at ∙ ap Some is)) (AreSame-refl c)
 
 -- If the new contents are `after old`, the call has stored its change with its reply.
-lists_change : (old new : Contents) (Owed : Contents → Type 0) (after : Contents → Contents) → new ≡ after old
-    → ((c : Contents) → AreSound c → Owed c → AreSound (after c)) → Commits (state_of old) (state_of new) (Ok tt) Owed after
-lists_change old new Owed after made keeps =
+lists_change : (old new : Contents) (entry : Entry) (Owed : Contents → Type 0) (after : Contents → Contents) → new ≡ after old
+    → ((c : Contents) → AreSound c → Owed c → AreSound (after c)) → Commits (state_of old) (state_of new) (Ok tt) entry Owed after
+lists_change old new entry Owed after made keeps =
     let is_after : (c : Contents) → old ≡ c → new ≡ after c = λ c is. made ∙ ap after is in
     record {
       doubts = omega arith;
@@ -23,24 +23,27 @@ lists_change old new Owed after made keeps =
       err = tt;
       crash = λ honest c d held owed at. inr (found new (after c) (is_after c held.0) d at);
       settled = λ honest c d held owed at. found new (after c) (is_after c held.0) d at;
+      logged = λ l none. absurd none;
+      unlogged = tt;
+      covered = λ honest c d held owed at l none. absurd none;
     }
 
 abbrev made : Facts → List Entry → List Mark → Contents
 made facts kept marks = record { facts = facts; kept = kept; marks = marks }
 
 pub lists_commit : (old new : Contents) (change : Change) (entry : Entry) → new.facts ≡ changed old.facts change → new.kept ≡ old.kept ++ entry ∷ []
-    → new.marks ≡ old.marks → Commits (state_of old) (state_of new) (Ok tt) (IsOwed change entry) (λ c. committed c change entry)
+    → new.marks ≡ old.marks → Commits (state_of old) (state_of new) (Ok tt) entry (IsOwed change entry) (λ c. committed c change entry)
 lists_commit old new change entry facts kept marks =
     let next : new ≡ committed old change entry =
     ap (λ f. made f new.kept new.marks) facts ∙ ap (λ k. made (changed old.facts change) k new.marks) kept
     ∙ ap (made (changed old.facts change) (old.kept ++ entry ∷ [])) marks in
-    lists_change old new (IsOwed change entry) (λ c. committed c change entry) next (λ c sound. sound_committed c entry sound change)
+    lists_change old new entry (IsOwed change entry) (λ c. committed c change entry) next (λ c sound. sound_committed c entry sound change)
 
 pub lists_release : (old new : Contents) (upto : ℕ) (entry : Entry) → new.facts ≡ old.facts → new.kept ≡ above new.marks (old.kept ++ entry ∷ [])
     → new.marks ≡ with_mark old.marks entry.client upto
-    → Commits (state_of old) (state_of new) (Ok tt) (IsOwedRelease upto entry) (λ c. released c upto entry)
+    → Commits (state_of old) (state_of new) (Ok tt) entry (IsOwedRelease upto entry) (λ c. released c upto entry)
 lists_release old new upto entry facts kept marks =
     let next : new ≡ released old upto entry =
     ap (λ f. made f new.kept new.marks) facts ∙ ap (λ k. made old.facts k new.marks) kept
     ∙ ap (λ m. made old.facts (above m (old.kept ++ entry ∷ [])) m) marks in
-    lists_change old new (IsOwedRelease upto entry) (λ c. released c upto entry) next (λ c sound. sound_released c entry sound upto)
+    lists_change old new entry (IsOwedRelease upto entry) (λ c. released c upto entry) next (λ c sound. sound_released c entry sound upto)

@@ -9,7 +9,7 @@ abbrev pub contents : ListStore → Contents
 contents s = record { facts = s.facts; kept = s.kept.items; marks = s.marks.items }
 
 -- The state of a store with the contents `c`. It has no device, so it counts no faults, and an open
--- after a crash finds exactly `c`.
+-- after a crash finds exactly `c`. It keeps no request log.
 abbrev pub state_of : Contents → State
 state_of c = record {
   holds = λ d. (c ≡ d) × AreSound d;
@@ -17,6 +17,7 @@ state_of c = record {
   failed = 0;
   full = 0;
   may_leave = λ d. d ≡ Some c;
+  log = λ l. ⊥;
 }
 
 abbrev pub state : ListStore → State
