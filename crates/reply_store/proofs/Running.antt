@@ -1,26 +1,26 @@
 -- Lemmas about one more arrival.
-use Rattle.std.proofs.Common.{◌≡◌, ◌⊎◌, ℕ, zero, suc, ◌+◌, ◌<◌, ◌≤◌, true, false, List, [], ◌∷◌, ◌++◌, length, get_or, map, take, Option, Some, None, Result, Ok, Err, IfOk, refl, sym, ap, ◌∙◌, subst, inl, inr, ⊎_elim, arith, append-nil}
+use Rattle.std.proofs.Common.{◌≡◌, ◌⊎◌, ℕ, zero, suc, ◌+◌, ◌<◌, ◌≤◌, true, false, List, [], ◌∷◌, ◌++◌, length, get_or, map, take, Option, Some, None, Result, Ok, Err, IfOk, refl, sym, ap, ◌∙◌, subst, inl, inr, ⊎_elim, arith, append-nil, append_assoc}
 use Rattle.std.specs.List.{zip}
 use Rattle.std.specs.Prelude.{filter, is_ok, slice_get}
-use Rattle.std.proofs.lemmas.Bool.{cases_Bool}
+use Rattle.std.proofs.lemmas.Bool.{cases_Bool, false≢true}
 use Rattle.std.proofs.lemmas.List.{map-append, map_more, map_push, take-append-le, take_at, length-map, length-take-le}
 use Rattle.std.proofs.lemmas.List.Elements.{filter-append}
 use Rattle.std.proofs.lemmas.Option.{none-some, slice_get_within}
 use Rattle.job_facts.specs.declared.request.Arrival.{Arrival}
 use Rattle.job_facts.specs.declared.store.StoreFault.{StoreFault}
 use Rattle.job_facts.specs.Contents.{AreSame, AreSound, Contents, Entry, entry_of}
-use Rattle.job_facts.specs.Store.{CountsFaults, IsFound, IsHonest, State, Stays, failed_after, full_after}
+use Rattle.job_facts.specs.Store.{CountsFaults, IsFound, IsHonest, Log, MayWrite, State, Stays, failed_after, full_after, with_lines}
 use Rattle.job_facts.proofs.Lists.{each_more}
 use Rattle.arrivals.specs.declared.kept.Kept.{Kept}
 use Rattle.arrivals.specs.HttpReplies.{http_reply}
 use Rattle.arrivals.specs.Laws.{AreAbove, AreAnsweredAlike}
-use Rattle.arrivals.specs.Meaning.{Arrived, contents_after, http_reply_on, is_released, reply_to}
+use Rattle.arrivals.specs.Meaning.{Arrived, contents_after, entry_with, http_reply_on, is_released, reply_to, told}
 use Rattle.arrivals.specs.Commands.{HandsOutNext}
 use Rattle.arrivals.proofs.Commands.{call_hands_out_next}
 use Rattle.arrivals.proofs.MeaningLemmas.{contents_old, contents_released, same_contents}
-use Rattle.arrivals.proofs.MeaningLists.{contents_after-append}
+use Rattle.arrivals.proofs.MeaningLists.{contents_after-append, told-append}
 use Rattle.reply_store.specs.Handled.{Handles, IsFirst}
-use Rattle.reply_store.specs.Runs.{arrived, AreNext, IsPending, Leaves, MayBeLeft, Runs, Served, Tried, decided, failed_through, full_through, tried}
+use Rattle.reply_store.specs.Runs.{arrived, AreNext, AreTold, IsPending, Leaves, MayBeLeft, Runs, Served, Tried, decided, failed_through, full_through, tried}
 
 decided-append : (xs ys : List Tried) → decided (xs ++ ys) ≡ decided xs ++ decided ys
 decided-append xs ys = ap (map (λ (t : Tried). t.0)) (filter-append (λ (t : Tried). t.1) xs ys) ∙ map-append (λ (t : Tried). t.0) (filter (λ (t : Tried). t.1) xs) (filter (λ (t : Tried). t.1) ys)
@@ -77,6 +77,7 @@ leaves_none s sound = record {
   contents = λ h c held. subst s.holds (sym (same_contents c (sound c held).above)) held;
   crash = λ h c d held left. inr (inr (same_contents c (sound c held).above, left));
   alike = λ h c d held above same. alike_by (contents_after c []) (contents_after d []) c d (same_contents c (sound c held).above) (same_contents d above) same;
+  logged = λ h c held l at. (l, at, inl (sym (append-nil l.lines)));
 }
 
 -- an arrival has a new number, or it leaves the contents unchanged
@@ -89,6 +90,34 @@ is_first c a sound = elim (cases_Bool (is_released c.marks a)) [
     at : (o : Option Entry) → entry_of c.kept a.client a.number ≡ o → is_released c.marks a ≡ false → IsFirst c a ⊎ (contents_after c (a ∷ []) ≡ c)
     at None e live = inl (live, e)
     at (Some entry) e live = inr (contents_old c a entry sound.above live e)
+
+-- ---- the request log
+
+told_push : (c : Contents) (tries : List Tried) (a : Arrived) → AreSound c → told c (decided (tries ++ (a, true) ∷ [])) ≡ told c (decided tries) ++ told (contents_after c (decided tries)) (a ∷ [])
+told_push c tries a sound = ap (told c) (decided-append tries ((a, true) ∷ [])) ∙ told-append c (decided tries) (a ∷ []) sound.above
+
+told_true : (c : Contents) (tries : List Tried) (a : Arrived) (l k : Log) → AreSound c → AreTold c tries l k → (k.shut ≡ false) ⊎ (told (contents_after c (decided tries)) (a ∷ []) ≡ [])
+    → AreTold c (tries ++ (a, true) ∷ []) l (with_lines (told (contents_after c (decided tries)) (a ∷ [])) k)
+told_true c tries a l k sound (inl same) takes =
+    let new = told (contents_after c (decided tries)) (a ∷ []) in
+    inl (ap (λ ls. ls ++ new) same ∙ append_assoc l.lines (told c (decided tries)) new ∙ ap (λ ls. l.lines ++ ls) (sym (told_push c tries a sound)))
+told_true c tries a l k sound (inr (shut, (e, lines))) (inl live) = absurd (false≢true (sym live ∙ shut))
+told_true c tries a l k sound (inr (shut, (e, lines))) (inr none) =
+    let still : told c (decided tries) ≡ told c (decided (tries ++ (a, true) ∷ [])) = sym (told_push c tries a sound ∙ ap (λ ls. told c (decided tries) ++ ls) none ∙ append-nil (told c (decided tries))) in
+    inr (shut, (e, ap (λ ls. k.lines ++ ls) none ∙ append-nil k.lines ∙ lines ∙ ap (λ ls. (l.lines ++ ls) ++ e ∷ []) still))
+
+told_false : (c : Contents) (tries : List Tried) (a : Arrived) (l k m : Log) (e : Entry) → AreTold c tries l k → MayWrite e k m → AreTold c (tries ++ (a, false) ∷ []) l m
+told_false c tries a l k m e was wrote =
+    let still : decided tries ≡ decided (tries ++ (a, false) ∷ []) = sym (decided-append tries ((a, false) ∷ []) ∙ append-nil (decided tries)) in
+    subst (λ (xs : List Arrived). (m.lines ≡ l.lines ++ told c xs) ⊎ ((m.shut ≡ true) × ((e : Entry) × (m.lines ≡ (l.lines ++ told c xs) ++ e ∷ [])))) still (now was wrote)
+  where
+    now : AreTold c tries l k → MayWrite e k m → AreTold c tries l m
+    now was (inl same) = subst (AreTold c tries l) (sym same) was
+    now (inl lines) (inr (live, shut, inl as_before)) = inl (as_before ∙ lines)
+    now (inl lines) (inr (live, shut, inr more)) = inr (shut, (e, more ∙ ap (λ ls. ls ++ e ∷ []) lines))
+    now (inr (shut, rest)) (inr (live, ended, which)) = absurd (false≢true (sym live ∙ shut))
+
+-- ---- one more arrival
 
 pub leaves_more : AreAnsweredAlike → (s0 s1 s2 : State) (tries : List Tried) (a : Arrived) (r : Result Kept StoreFault) → ((c : Contents) → s0.holds c → AreSound c) → ((c : Contents) → s1.holds c → AreSound c)
     → Leaves s0 s1 tries → Handles s1 s2 a r → Leaves s0 s2 (tries ++ (a, is_ok r) ∷ [])
@@ -104,6 +133,9 @@ leaves_more answers s0 s1 s2 tries a (Ok k) sound then run handled = record {
   alike = λ h c d held above same. let m : IsHonest s1 = omega (arith, handled.doubts) in let n = contents_after c (decided tries) in let o = contents_after d (decided tries) in
       alike_by (contents_after c (decided (tries ++ (a, true) ∷ []))) (contents_after d (decided (tries ++ (a, true) ∷ []))) (contents_after n (a ∷ [])) (contents_after o (a ∷ []))
       (after_true c tries a (sound c held)) (after_above d tries a above) (answers n o a (then n (run.contents m c held)) (run.alike m c d held above same)).1;
+  logged = λ h c held l at. let m : IsHonest s1 = omega (arith, handled.doubts) in let n = contents_after c (decided tries) in
+      let was = run.logged m c held l at in let step = handled.logged h n (run.contents m c held) was.0 was.1 in
+      (with_lines (told n (a ∷ [])) was.0, step.1, told_true c tries a l was.0 (sound c held) was.2 step.0);
 }
 leaves_more answers s0 s1 s2 tries a (Err f) sound then run handled = record {
   doubts = omega (arith, run.doubts, handled.doubts);
@@ -123,6 +155,9 @@ leaves_more answers s0 s1 s2 tries a (Err f) sound then run handled = record {
   alike = λ h c d held above same. let m : IsHonest s1 = omega (arith, handled.doubts) in
       alike_by (contents_after c (decided (tries ++ (a, false) ∷ []))) (contents_after d (decided (tries ++ (a, false) ∷ []))) (contents_after c (decided tries)) (contents_after d (decided tries))
       (after_false c tries a) (after_false d tries a) (run.alike m c d held above same);
+  logged = λ h c held l at. let m : IsHonest s1 = omega (arith, handled.doubts) in let n = contents_after c (decided tries) in
+      let was = run.logged m c held l at in let step = handled.unlogged h n (run.contents m c held) was.0 was.1 in
+      (step.0, step.1, told_false c tries a l was.0 step.0 (entry_with a (reply_to n.facts n.marks a)) was.2 step.2);
 }
 
 -- a call that changes nothing
@@ -132,6 +167,7 @@ leaves_stays s0 s1 s2 tries run stays = record {
   contents = λ h c held. stays.contents h (contents_after c (decided tries)) (run.contents (omega (arith, stays.doubts)) c held);
   crash = λ h c d held left. run.crash (omega (arith, stays.doubts)) c d held (stays.crash h d left);
   alike = λ h. run.alike (omega (arith, stays.doubts));
+  logged = λ h c held l at. let was = run.logged (omega (arith, stays.doubts)) c held l at in (was.0, stays.log was.0 was.1, was.2);
 }
 
 -- ---- the responses

@@ -1,11 +1,11 @@
 -- Defines the effect of handling an arrival on a store.
-use Rattle.std.specs.Prelude.{◌≡◌, ◌⊎◌, ◌≤◌, false, [], ◌∷◌, Option, None, Result, IfOk, OnOk, OnErr}
+use Rattle.std.specs.Prelude.{◌≡◌, ◌⊎◌, ◌≤◌, false, [], ◌∷◌, ◌++◌, Option, None, Result, IfOk, OnOk, OnErr}
 use Rattle.job_facts.specs.declared.store.StoreFault.{StoreFault}
 use Rattle.job_facts.specs.Contents.{Contents, entry_of}
-use Rattle.job_facts.specs.Store.{IsFound, IsHonest, State}
+use Rattle.job_facts.specs.Store.{IsFound, IsHonest, Log, MayWrite, State, with_lines}
 use Rattle.arrivals.specs.declared.kept.Kept.{Kept}
 use Rattle.arrivals.specs.HttpReplies.{http_reply}
-use Rattle.arrivals.specs.Meaning.{Arrived, contents_after, http_reply_on, is_released}
+use Rattle.arrivals.specs.Meaning.{Arrived, contents_after, entry_with, http_reply_on, is_released, reply_to, told}
 
 -- the number of the arrival is new: it isn't released, and no entry has it
 abbrev pub IsFirst : Contents → Arrived → Type 0
@@ -23,3 +23,11 @@ pub record Handles (old new : State) (a : Arrived) (result : Result Kept StoreFa
   pub crash : IsHonest new → (c : Contents) (d : Option Contents) → old.holds c → new.may_leave d → old.may_leave d ⊎ IsFound d (contents_after c (a ∷ []))
   -- if the arrival has a new number and gets a reply, a crash leaves only the latter
   pub settled : OnOk result (IsHonest new → (c : Contents) (d : Option Contents) → old.holds c → IsFirst c a → new.may_leave d → IsFound d (contents_after c (a ∷ [])))
+  -- if the arrival has a new number, the request log wasn't shut and gets its line; otherwise the
+  -- request log is unchanged
+  pub logged : OnOk result (IsHonest new → (c : Contents) → old.holds c → (l : Log) → old.log l → ((l.shut ≡ false) ⊎ (told c (a ∷ []) ≡ [])) × new.log (with_lines (told c (a ∷ [])) l))
+  pub unlogged : OnErr result (IsHonest new → (c : Contents) → old.holds c → (l : Log) → old.log l → (m : Log) × new.log m × MayWrite (entry_with a (reply_to c.facts c.marks a)) l m)
+  -- if a crash leaves a state that wasn't possible before the call, the request log has the line of
+  -- the arrival
+  pub covered : IsHonest new → (c : Contents) (d : Option Contents) → old.holds c → new.may_leave d → (l : Log) → old.log l
+      → old.may_leave d ⊎ (IsFound d (contents_after c (a ∷ [])) × ((m : Log) × new.log m × (m.lines ≡ l.lines ++ told c (a ∷ []))))

@@ -1,13 +1,13 @@
 -- Defines the effect of a list of arrivals on a store.
-use Rattle.std.specs.Prelude.{◌≡◌, ◌⊎◌, ◌≤◌, ℕ, List, [], ◌∷◌, ◌++◌, map, filter, take, slice_get, Option, Some, Result, IfOk, is_ok, Bool, false}
+use Rattle.std.specs.Prelude.{◌≡◌, ◌⊎◌, ◌≤◌, ℕ, List, [], ◌∷◌, ◌++◌, map, filter, take, slice_get, Option, Some, Result, IfOk, is_ok, Bool, false, true}
 use Rattle.job_facts.specs.declared.request.Arrival.{Arrival}
 use Rattle.job_facts.specs.declared.store.StoreFault.{StoreFault}
-use Rattle.job_facts.specs.Contents.{AreSame, Contents}
-use Rattle.job_facts.specs.Store.{IsFound, IsHonest, State, Stays, failed_after, full_after}
+use Rattle.job_facts.specs.Contents.{AreSame, Contents, Entry}
+use Rattle.job_facts.specs.Store.{IsFound, IsHonest, Log, State, Stays, failed_after, full_after}
 use Rattle.arrivals.specs.declared.kept.Kept.{Kept}
 use Rattle.arrivals.specs.HttpReplies.{http_reply}
 use Rattle.arrivals.specs.Laws.{AreAbove}
-use Rattle.arrivals.specs.Meaning.{Arrived, contents_after, http_reply_on, reply_to}
+use Rattle.arrivals.specs.Meaning.{Arrived, contents_after, http_reply_on, reply_to, told}
 use Rattle.arrivals.specs.Commands.{HandsOutNext}
 use Rattle.reply_store.specs.Handled.{Handles, IsFirst}
 
@@ -32,6 +32,12 @@ IsPending c tried d =
 abbrev pub MayBeLeft : (Option Contents → Type 0) → Contents → List Tried → Option Contents → Type 0
 MayBeLeft before c tried d = IsFound d (contents_after c (decided tried)) ⊎ (IsPending c tried d ⊎ ((contents_after c (decided tried) ≡ c) × before d))
 
+-- The request log `m` has the lines of `l` and of the decided arrivals. If it is shut, it may also
+-- have the line of an arrival that a fault of the store ended.
+abbrev pub AreTold : Contents → List Tried → Log → Log → Type 0
+AreTold c tried l m =
+    (m.lines ≡ l.lines ++ told c (decided tried)) ⊎ ((m.shut ≡ true) × ((e : Entry) × (m.lines ≡ (l.lines ++ told c (decided tried)) ++ e ∷ [])))
+
 -- the store has the contents after the decided arrivals
 pub record Leaves (old new : State) (tried : List Tried) : Type 0 where
   pub doubts : old.doubts ≤ new.doubts
@@ -40,6 +46,8 @@ pub record Leaves (old new : State) (tried : List Tried) : Type 0 where
   -- for contents that differ only in the order of sets and maps, the contents after the decided
   -- arrivals again differ only in this order
   pub alike : IsHonest new → (c d : Contents) → old.holds c → AreAbove d → AreSame c d → AreSame (contents_after c (decided tried)) (contents_after d (decided tried))
+  -- the request log has the lines of the decided arrivals
+  pub logged : IsHonest new → (c : Contents) → old.holds c → (l : Log) → old.log l → (m : Log) × new.log m × AreTold c tried l m
 
 -- `Leaves` can be proved in steps: for no arrival, after one more arrival that is handled, and
 -- after a call that changes nothing

@@ -43,8 +43,8 @@ pub(crate) fn settle<S: JobStore>(
 ) -> Result<Kept, StoreFault>
     requires most { arrival.now.number < 10 ^ 18 }
     ensures commits { let entry = entry_with (arrived arrival.now) reply.now in
-        Commits (S.state store.old) (S.state store.new) (done result) (IsOwedBy effect.now entry)
-        (after_effect effect.now entry) }
+        Commits (S.state store.old) (S.state store.new) (done result) entry
+        (IsOwedBy effect.now entry) (after_effect effect.now entry) }
     ensures value { IfOk result (λ k. http_reply k ≡ http_reply_of reply.now) }
     ensures faults { CountsFaults (S.state store.old) (S.state store.new) result }
 {
@@ -63,7 +63,7 @@ pub(crate) fn settle<S: JobStore>(
 fn put<S: JobStore>(store: &mut S, entry: &Entry<'_>, effect: &Effect<'_>) -> Result<(), StoreFault>
     requires most { entry.now.number < 10 ^ 18 }
     ensures commits { let kept = kept_reply entry.now in
-        Commits (S.state store.old) (S.state store.new) result (IsOwedBy effect.now kept)
+        Commits (S.state store.old) (S.state store.new) result kept (IsOwedBy effect.now kept)
         (after_effect effect.now kept) }
     ensures faults { CountsFaults (S.state store.old) (S.state store.new) result }
 {
