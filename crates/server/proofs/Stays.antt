@@ -1,13 +1,11 @@
 -- Lemmas about a connection that changes nothing.
-use Rattle.std.proofs.Common.{◌≡◌, ℕ, Bool, false, List, Err, refl, sym, subst, ◌∙◌, inl, inr, ⊎_elim, arith}
+use Rattle.std.proofs.Common.{◌≡◌, ℕ, Bool, false, List, Err, refl, sym, subst, ◌∙◌, inl, inr, ⊎_elim}
 use Rattle.std.proofs.lemmas.Bool.{false≢true}
-use Rattle.job_facts.specs.declared.store.StoreFault.{StoreFault}
 use Rattle.job_facts.specs.declared.store.StoreFault.TheVariants.{Memory}
 use Rattle.job_facts.specs.Contents.{Contents}
-use Rattle.job_facts.specs.Store.{State, Stays}
-use Rattle.reply_store.specs.Handled.{Handles}
-use Rattle.arrivals.specs.Meaning.{Arrived}
+use Rattle.job_facts.specs.Store.{State}
 use Rattle.reply_store.specs.Runs.{arrived}
+use Rattle.reply_store.proofs.Handling.{Stays-refl, handles_stays}
 use Rattle.http_requests.specs.declared.ask.Asked.TheVariants as asked
 use Rattle.http_messages.specs.declared.fixed.FixedReply.TheVariants.{Storage}
 use Rattle.http_messages.specs.Messages.{HasHead}
@@ -18,25 +16,11 @@ use Rattle.server.specs.Replies.{IsWritten}
 use Rattle.server.specs.Exchanges.{Does, Exchange, IsNext, Serves}
 use Rattle.server.specs.Serving.{MayServe}
 
-pub stays_same : (s : State) → Stays s s
-stays_same s = record { doubts = omega arith; contents = λ h c held. held; crash = λ h d left. left }
-
--- an arrival for which the store returned a fault
-handles_stays : (old new : State) (a : Arrived) (fault : StoreFault) → Stays old new → Handles old new a (Err fault)
-handles_stays old new a fault stays = record {
-  doubts = stays.doubts;
-  reply_is = λ h c held. tt;
-  ok = tt;
-  err = stays.contents;
-  crash = λ h c d held left. inl (stays.crash h d left);
-  settled = tt;
-}
-
 does_nothing : (m : Meant) (s : State) → Does m s s false
-does_nothing Broken s = (stays_same s, refl)
-does_nothing (Refused why) s = (stays_same s, refl)
-does_nothing (Asks (asked.Account w)) s = (stays_same s, refl)
-does_nothing (Asks (asked.Arrival a)) s = (Err Memory, handles_stays s s (arrived a) Memory (stays_same s), refl)
+does_nothing Broken s = (Stays-refl s, refl)
+does_nothing (Refused why) s = (Stays-refl s, refl)
+does_nothing (Asks (asked.Account w)) s = (Stays-refl s, refl)
+does_nothing (Asks (asked.Arrival a)) s = (Err Memory, handles_stays s s (arrived a) Memory (Stays-refl s), refl)
 
 pub hands_out_none : (c : Contents) (m : Meant) (b : Bool) → b ≡ false → IsNext c m b
 hands_out_none c Broken b undecided = tt

@@ -4,7 +4,8 @@ use Rattle.http_requests.specs.Meant.{Asks, Broken, Refused}
 use Rattle.server.specs.declared.served.End.TheVariants as ended
 use Rattle.server.specs.declared.served.Served.{Served}
 use Rattle.server.specs.Exchanges.{Exchange}
-use Rattle.server.proofs.Stays.{serves_behind, stays_same, unavailable}
+use Rattle.reply_store.proofs.Handling.{Stays-refl}
+use Rattle.server.proofs.Stays.{serves_behind, unavailable}
 use Rattle.server.proofs.one.serve_by.Goals as goal
 
 pub returns-in-Asks : goal.returns-in-Asks
@@ -20,7 +21,7 @@ returns-in-Broken g c =
     let m = c.in-Broken.ensures in
     let served : Served = record { end = ended.Broken; decided = false } in
     let e : Exchange = record { input = m.0; meant = Broken; written = []; served = served } in
-    (e, m.1, Appends-nil _, refl, record { means = m.2; does = (stays_same (g.S.JobStore.state c.args.store.now), refl); answered = λ h d held. inl (refl, refl); fixed = λ none d. inl (refl, refl); next = λ d held. tt }, refl)
+    (e, m.1, Appends-nil _, refl, record { means = m.2; does = (Stays-refl (g.S.JobStore.state c.args.store.now), refl); answered = λ h d held. inl (refl, refl); fixed = λ none d. inl (refl, refl); next = λ d held. tt }, refl)
 
 pub returns-in-Refused : goal.returns-in-Refused
 returns-in-Refused g c =
@@ -28,7 +29,7 @@ returns-in-Refused g c =
     let t = c.refuse.ensures.written in
     let undecided = c.refuse.ensures.decided in
     let e : Exchange = record { input = m.0; meant = Refused c.in-Refused.why; written = t.0; served = c.refuse.result } in
-    (e, m.1, t.1, refl, record { means = m.2; does = (stays_same (g.S.JobStore.state c.args.store.now), undecided); answered = λ h d held. inl (undecided, t.2); fixed = λ none d. inl (undecided, t.2); next = λ d held. tt }, refl)
+    (e, m.1, t.1, refl, record { means = m.2; does = (Stays-refl (g.S.JobStore.state c.args.store.now), undecided); answered = λ h d held. inl (undecided, t.2); fixed = λ none d. inl (undecided, t.2); next = λ d held. tt }, refl)
 
 pub returns-in-Memory : goal.returns-in-Memory
 returns-in-Memory g c =
