@@ -9,7 +9,7 @@ use Rattle.sqlite_trees.specs.Objects.{catalog_tree}
 use Rattle.sqlite_catalog.specs.Listing.{Lists}
 use Rattle.sqlite_catalog.proofs.ReadLemmas.{lists_once}
 use Rattle.job_facts.specs.declared.store.StoreFault.{StoreFault}
-use Rattle.job_facts.specs.Contents.{AreSame, AreSound, Contents}
+use Rattle.job_facts.specs.Contents.{AreSame, AreSound, Contents, Entry}
 use Rattle.job_facts.specs.Store.{Commits, IsFound, Reads, Stays}
 use Rattle.table_rows.specs.Tables.{HaveSameRows, Tables}
 use Rattle.image_laws.specs.Image.{image}
@@ -32,6 +32,7 @@ stays old new a b m n survives kept = record {
   doubts = survives.clean;
   contents = λ honest c held. still old new c a b m n (kept honest) held;
   crash = λ honest d left. elim (survives.crash honest left.0 left.1) [ inl before ↦ (left.0, before, left.2) | inr none ↦ absurd none ];
+  log = λ l none. absurd none;
 }
 
 module _ {T : Type 0} where
@@ -86,7 +87,7 @@ pub found : RowsLaw → (c : Contents) → AreSound c → (db : Database) → Is
 found law c sound db now trees is None at = absurd (shown_at None db trees now.is_database is at c sound (image_had c db now))
 found law c sound db now trees is (Some d) at = let shown = shown_at (Some d) db trees now.is_database is at in law d c shown.0 sound (has_image (image c) d db now shown.1)
 
-module _ (law : RowsLaw) (Owed : Contents → Type 0) (after : Contents → Contents) (sound : (c : Contents) → AreSound c → Owed c → AreSound (after c)) (old new : State) (a b m n : ℕ)
+module _ (law : RowsLaw) (entry : Entry) (Owed : Contents → Type 0) (after : Contents → Contents) (sound : (c : Contents) → AreSound c → Owed c → AreSound (after c)) (old new : State) (a b m n : ℕ)
     (survives : Survives old new (IsLeft (MovesContents Owed after) old)) where
   left_by : HasCleanDisk new → (c : Contents) (d : Option Contents) → (link old a b).holds c → Owed c → (link new m n).may_leave d → (link old a b).may_leave d ⊎ IsFound d (after c)
   left_by honest c d held owed left =
@@ -95,7 +96,7 @@ module _ (law : RowsLaw) (Owed : Contents → Type 0) (after : Contents → Cont
         | inr it ↦ inr (found law (after c) (sound c held.0 owed) it.1.0 (it.1.1 c held.0 owed (held.1 it.0)) left.0 it.1.2 d left.2)
       ]
 
-  pub commits : (HasCleanDisk new → Ends (MovesContents Owed after) old new) → Commits (link old a b) (link new m n) (Ok tt) Owed after
+  pub commits : (HasCleanDisk new → Ends (MovesContents Owed after) old new) → Commits (link old a b) (link new m n) (Ok tt) entry Owed after
   commits done = record {
     doubts = survives.clean;
     ok = λ honest c held owed. let k = done honest in (sound c held.0 owed, λ live. k.made c held.0 owed (held.1 k.was_open));
@@ -104,20 +105,26 @@ module _ (law : RowsLaw) (Owed : Contents → Type 0) (after : Contents → Cont
     settled = λ honest c d held owed left.
         let k = done honest in
         found law (after c) (sound c held.0 owed) new.now (k.made c held.0 owed (held.1 k.was_open)) left.0 (k.only left.0 left.1) d left.2;
+    logged = λ l none. absurd none;
+    unlogged = tt;
+    covered = λ honest c d held owed left l none. absurd none;
   }
 
-  pub fails : (why : StoreFault) → (HasCleanDisk new → IsKept old new) → Commits (link old a b) (link new m n) (Err why) Owed after
+  pub fails : (why : StoreFault) → (HasCleanDisk new → IsKept old new) → Commits (link old a b) (link new m n) (Err why) entry Owed after
   fails why kept = record {
     doubts = survives.clean;
     ok = tt;
     err = λ honest c held owed. still old new c a b m n (kept honest) held;
     crash = left_by;
     settled = tt;
+    logged = tt;
+    unlogged = λ l none. absurd none;
+    covered = λ honest c d held owed left l none. absurd none;
   }
 
   -- a success is a commit, and a fault leaves everything unchanged
   pub translated_commits : (r : Result (Unit {0}) Error) (translated : Result (Unit {0}) StoreFault) → IsTranslated r translated → (HasCleanDisk new → OnOk r (Ends (MovesContents Owed after) old new))
-      → (HasCleanDisk new → OnErr r (IsKept old new)) → Commits (link old a b) (link new m n) translated Owed after
-  translated_commits (Ok u) translated is ok err = subst (λ t. Commits (link old a b) (link new m n) t Owed after) (sym is) (commits ok)
+      → (HasCleanDisk new → OnErr r (IsKept old new)) → Commits (link old a b) (link new m n) translated entry Owed after
+  translated_commits (Ok u) translated is ok err = subst (λ t. Commits (link old a b) (link new m n) t entry Owed after) (sym is) (commits ok)
   translated_commits (Err e) (Ok u) is ok err = absurd (cc)
   translated_commits (Err e) (Err why) is ok err = fails why err

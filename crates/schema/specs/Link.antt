@@ -33,7 +33,8 @@ FindsAtOpen None trees = (c : Contents) → AreSound c → ¬ HasAt trees c
 FindsAtOpen (Some c) trees = AreSound c × HasAt trees c
 
 -- The state of a store whose connection is in the state `s`. If a fault has closed the connection,
--- the store represents any sound contents. The two counts are the store's own.
+-- the store represents any sound contents. The two counts are the store's own. It keeps no request
+-- log.
 abbrev pub link : sqlite.State → ℕ → ℕ → State
 link s failed full = record {
   holds = λ c. AreSound c × (IsTrue s.is_open → IsImage (image c) s.now);
@@ -41,6 +42,7 @@ link s failed full = record {
   failed = failed;
   full = full;
   may_leave = λ d. (trees : Trees) × s.may_leave trees × FindsAtOpen d trees;
+  log = λ l. ⊥;
 }
 
 -- A success is returned unchanged, and an error is returned as its fault.

@@ -8,5 +8,5 @@ use Rattle.schema.proofs.store.SqlStoreJobStore.commit.Goals as goal
 pub returns-clause-all_or_nothing : goal.returns-clause-all_or_nothing
 returns-clause-all_or_nothing g c =
     let entry : Entry = kept_reply c.args.entry.now in
-    translated_commits c.same_rows_same_contents.ensures (IsOwed c.args.change.now entry) (λ d. committed d c.args.change.now entry) (λ d sound owed. sound_committed d entry sound c.args.change.now owed)
+    translated_commits c.same_rows_same_contents.ensures entry (IsOwed c.args.change.now entry) (λ d. committed d c.args.change.now entry) (λ d sound owed. sound_committed d entry sound c.args.change.now owed)
     (state g.S.Store c.args.self.now.conn) (state g.S.Store c.keep-answer.new.conn) _ _ _ _ c.keep-answer.ensures.crash c.keep-answer.result c.translated.result c.translated.ensures.value c.keep-answer.ensures.ok c.keep-answer.ensures.err

@@ -8,5 +8,5 @@ use Rattle.schema.proofs.store.SqlStoreJobStore.release.Goals as goal
 pub returns-clause-all_or_nothing : goal.returns-clause-all_or_nothing
 returns-clause-all_or_nothing g c =
     let entry : Entry = kept_reply c.args.entry.now in
-    translated_commits c.same_rows_same_contents.ensures (IsOwedRelease c.args.mark entry) (λ d. released d c.args.mark entry) (λ d sound owed. sound_released d entry sound c.args.mark owed)
+    translated_commits c.same_rows_same_contents.ensures entry (IsOwedRelease c.args.mark entry) (λ d. released d c.args.mark entry) (λ d sound owed. sound_released d entry sound c.args.mark owed)
     (state g.S.Store c.args.self.now.conn) (state g.S.Store c.release-answer.new.conn) _ _ _ _ c.release-answer.ensures.crash c.release-answer.result c.translated.result c.translated.ensures.value c.release-answer.ensures.ok c.release-answer.ensures.err
