@@ -1,11 +1,13 @@
 pub mod Meanings
 pub mod ChangeMeanings
 pub mod Adding
+pub mod Many
+pub mod AddingRows
 pub mod Putting
 pub mod PuttingBatches
 pub mod PuttingCards
-pub mod Many
 pub mod PuttingFileRows
 pub mod Setting
 pub mod Removing
 pub mod RawLemmas
+pub mod Writing

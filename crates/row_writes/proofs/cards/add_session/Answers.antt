@@ -1,16 +1,12 @@
-use Rattle.sql_base.proofs.Ending.{wrote}
-use Rattle.sql_rows.specs.Image.{Moves}
 use Rattle.table_rows.specs.After.{new_session}
 use Rattle.table_rows.specs.Tables.{with_session}
 use Rattle.row_writes.proofs.PuttingCards.{session_added}
+use Rattle.row_writes.proofs.Writing.{writes}
 use Rattle.row_writes.proofs.cards.add_session.Goals as goal
 
 pub returns : goal.returns
-returns g c = record {
-  wrote = λ clean.
-      let a = c.args in
-      wrote g.S.Store (Moves (with_session (new_session a.id a.place.now a.machine.now a.blank))) c.args.tx.now.conn.now c.execute.new.self.conn.now _ _ _ (session_added a.id a.place.now a.machine.now a.blank _ _) c.execute.result c.execute.ensures.ended
-      (rw (c.int.ensures, c.int-2.ensures, c.int-3.ensures, c.int-4.ensures, c.bytes.ensures.value) at (c.execute.ensures.runs clean));
-  same_reference = c.execute.ensures.same_reference;
-  survives = c.execute.ensures.survives;
-}
+returns g c =
+    let a = c.args in
+    writes g.S.Store (with_session (new_session a.id a.place.now a.machine.now a.blank)) c.args.tx.now.conn c.execute.new.self.conn _ _ (session_added a.id a.place.now a.machine.now a.blank _ _)
+    c.execute.result c.execute.ensures.ended c.execute.ensures.same_reference c.execute.ensures.survives
+    (λ clean. rw (c.int.ensures, c.int-2.ensures, c.int-3.ensures, c.int-4.ensures, c.bytes.ensures.value) at (c.execute.ensures.runs clean))
