@@ -142,57 +142,23 @@ module _ (batch : ℕ) (taken next : List Row) (new : List (List ℕ)) (named_to
     rows_more t =
         let old_records = map (new_record batch) (enumerate_from 0 (names_of taken)) in
         let old_rows = map (new_grouping batch (names_of taken)) (enumerate_from 2 taken) in
-        record {
-          products = IsPermutation-refl _;
-          lots = IsPermutation-refl _;
-          batches = IsPermutation-refl _;
-          records =
-              subst (λ rs. IsPermutation (rs ++ t.records) (map record_of records ++ (old_records ++ t.records)))
-              (sym (records_more ∙ ap (λ rs. old_records ++ rs) (sym records_are)))
-              (last_first old_records (map record_of records) t.records);
-          groupings =
-              subst (λ gs. IsPermutation (gs ++ t.groupings) (map grouping_of rows ++ (old_rows ++ t.groupings)))
-              (sym (groupings_more ∙ ap (λ gs. old_rows ++ gs) (sym rows_are)))
-              (last_first old_rows (map grouping_of rows) t.groupings);
-          sessions = IsPermutation-refl _;
-          words = IsPermutation-refl _;
-          blanks = IsPermutation-refl _;
-          remakes = IsPermutation-refl _;
-          replies = IsPermutation-refl _;
-          marks = IsPermutation-refl _;
-        }
+        let records =
+        subst (λ rs. IsPermutation (rs ++ t.records) (map record_of records ++ (old_records ++ t.records)))
+        (sym (records_more ∙ ap (λ rs. old_records ++ rs) (sym records_are)))
+        (last_first old_records (map record_of records) t.records) in
+        let groupings =
+        subst (λ gs. IsPermutation (gs ++ t.groupings) (map grouping_of rows ++ (old_rows ++ t.groupings)))
+        (sym (groupings_more ∙ ap (λ gs. old_rows ++ gs) (sym rows_are)))
+        (last_first old_rows (map grouping_of rows) t.groupings) in
+        search IsPermutation-refl
 
 -- Inserting rows one by one has the same effect as inserting them together.
 module _ (t : Tables) where
   records_swapped : (records more : List StoredRecord) → IsPermutation records more → HaveSameRows (record t { records = records }) (record t { records = more })
-  records_swapped records more same = record {
-    products = IsPermutation-refl _;
-    lots = IsPermutation-refl _;
-    batches = IsPermutation-refl _;
-    records = same;
-    groupings = IsPermutation-refl _;
-    sessions = IsPermutation-refl _;
-    words = IsPermutation-refl _;
-    blanks = IsPermutation-refl _;
-    remakes = IsPermutation-refl _;
-    replies = IsPermutation-refl _;
-    marks = IsPermutation-refl _;
-  }
+  records_swapped records more same = search IsPermutation-refl
 
   groupings_swapped : (groupings more : List StoredGrouping) → IsPermutation groupings more → HaveSameRows (record t { groupings = groupings }) (record t { groupings = more })
-  groupings_swapped groupings more same = record {
-    products = IsPermutation-refl _;
-    lots = IsPermutation-refl _;
-    batches = IsPermutation-refl _;
-    records = IsPermutation-refl _;
-    groupings = same;
-    sessions = IsPermutation-refl _;
-    words = IsPermutation-refl _;
-    blanks = IsPermutation-refl _;
-    remakes = IsPermutation-refl _;
-    replies = IsPermutation-refl _;
-    marks = IsPermutation-refl _;
-  }
+  groupings_swapped groupings more same = search IsPermutation-refl
 
 first_behind : {X : Type 0} (x : X) (xs ys : List X) → IsPermutation (x ∷ (xs ++ ys)) (xs ++ x ∷ ys)
 first_behind x xs ys = IsPermutation-sym _ _ (IsPermutation-middle xs x ys)
