@@ -7,7 +7,7 @@ use Rattle.sqlite.specs.Order.{Row}
 use Rattle.sqlite.specs.Table.{Table}
 use Rattle.job_facts.specs.Contents.{Mark}
 use Rattle.table_rows.specs.Tables.{HaveSameRows, Tables}
-use Rattle.sql_rows.specs.Encoding.{batch_row, blank_row, grouping_row, lot_row, mark_row, product_row, record_row, remake_row, reply_row, session_row, word_row}
+use Rattle.sql_rows.specs.Encoding.{mark_row}
 use Rattle.sql_tables.specs.declared.versions.Version.{Version}
 use Rattle.sql_tables.specs.declared.versions.Version.TheVariants.{One, Two, Three}
 use Rattle.table_reads.specs.Holding.{Holds, HoldsMarks, HoldsRows}
@@ -30,18 +30,4 @@ marks_reordered Two db ms ns same held = reordered mark_row ms ns same held
 marks_reordered Three db ms ns same held = reordered mark_row ms ns same held
 
 pub any_order : (v : Version) (t u : Tables) (db : Database) → HaveSameRows t u → HoldsRows v u db → HoldsRows v t db
-any_order v t u db same held = record {
-  just = held.just;
-  version = held.version;
-  products = reordered product_row _ _ same.products held.products;
-  lots = reordered lot_row _ _ same.lots held.lots;
-  batches = reordered batch_row _ _ same.batches held.batches;
-  records = reordered record_row _ _ same.records held.records;
-  groupings = reordered grouping_row _ _ same.groupings held.groupings;
-  sessions = reordered session_row _ _ same.sessions held.sessions;
-  words = reordered word_row _ _ same.words held.words;
-  blanks = reordered blank_row _ _ same.blanks held.blanks;
-  remakes = reordered remake_row _ _ same.remakes held.remakes;
-  replies = reordered reply_row _ _ same.replies held.replies;
-  marks = marks_reordered v db _ _ same.marks held.marks;
-}
+any_order v t u db same held = search (reordered, marks_reordered)

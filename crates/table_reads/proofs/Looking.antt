@@ -14,8 +14,9 @@ use Rattle.table_reads.proofs.Together.{early}
 
 -- ---- two calls, the second of which has the result
 
-pub looks_then : {S X Y : Type 0} {g : Ghosts S} {a b c : Held S} {q : Result Y Error} {r : Result X Error} → LooksWithCause g a b q → LooksWithCause g b c r → LooksWithCause g a c r
-looks_then {S} {X} {Y} {g} {a} {b} {c} {q} {r} one two = record {
+infixl 10 ◌▷◌
+pub ◌▷◌ : {S X Y : Type 0} {g : Ghosts S} {a b c : Held S} {q : Result Y Error} {r : Result X Error} → LooksWithCause g a b q → LooksWithCause g b c r → LooksWithCause g a c r
+◌▷◌ {S} {X} {Y} {g} {a} {b} {c} {q} {r} one two = record {
   kept = λ clean. kept_then (state g a) (state g b) (state g c) (one.kept (early (state g b) (state g c) two.survives clean)) (two.kept clean);
   idle = two.idle;
   survives = outlives one.survives two.survives;

@@ -1,5 +1,5 @@
 -- The relation between the rows that a query of a whole table returns and the stored rows.
-use Rattle.std.proofs.Common.{◌≡◌, ◌↔◌, ℕ, IsTrue, MatchOption, None, Option, Some, zero, suc, Bool, true, false, List, [], ◌∷◌, map, All, refl, sym, ap, ap₂, subst, ◌∙◌, arith}
+use Rattle.std.proofs.Common.{◌≡◌, ℕ, MatchOption, None, Option, Some, zero, suc, Bool, true, false, List, [], ◌∷◌, map, All, refl, sym, ap, ap₂, subst, ◌∙◌, arith}
 use Rattle.std.specs.List.{AllByRecursion, AllZip}
 use Rattle.std.specs.List.Sorted.{IsPermutation}
 use Rattle.std.proofs.lemmas.List.Sorted.{All-permutation, IsPermutation-map, IsPermutation-sym, IsPermutation-trans}
@@ -10,11 +10,11 @@ use Rattle.sqlite_schema.specs.Names.{same_name}
 use Rattle.sqlite_schema.specs.Rules.{passes as keeps}
 use Rattle.sqlite_schema.specs.declared.schema.Constraint.{Constraint}
 use Rattle.sqlite_schema.specs.declared.schema.Constraint.TheVariants.{Datatype, NotNull}
-use Rattle.sql_base.specs.Rowids.{AreApart}
 use Rattle.sql_tables.specs.Finds.{Finds}
 use Rattle.sql_rows.specs.Image.{given_rows}
 use Rattle.table_reads.specs.Converted.{AreConverted}
 use Rattle.table_reads.specs.declared.reads.TableRows.{TableRows}
+use Rattle.table_reads.specs.Reading.{HasAll}
 use Rattle.table_reads.specs.Whole.{AreShown, IsWhole, NoneFit, as_stored, columns_of, stored_row, with_rowid}
 use Rattle.sql_tables.proofs.Lookups.{all_at, is_at}
 
@@ -95,7 +95,7 @@ zip_maps encode f (r ∷ rows) (x ∷ xs) all = ap₂ ◌∷◌ all.0 (zip_maps 
 module _ {X : Type 0} (encode : X → Row) (fits : X → Type 0) (by_rowid : Bool) (IsShaped : Row → Type 0) (law : (x : X) → fits x → (r : Row) → as_stored by_rowid r ≡ encode x → IsShaped r) where
   pub whole_found : (sql : List ℕ) (table : ℕ → Table) (whole : IsWhole sql table by_rowid) (db : Database) → IsDatabase db → (found : Option (TableRows X)) → AreConverted IsShaped (λ r x. encode x ≡ as_stored by_rowid r) sql db found
       → (tree : ℕ) → Finds db.schema (table tree)
-      → MatchOption found (NoneFit encode fits (given_rows by_rowid (db.trees tree))) (λ all. IsPermutation (map encode all.rows.items) (given_rows by_rowid (db.trees tree)) × (IsTrue all.apart ↔ AreApart (db.trees tree)))
+      → MatchOption found (NoneFit encode fits (given_rows by_rowid (db.trees tree))) (HasAll encode by_rowid (db.trees tree))
   whole_found sql table whole db sound None read tree f =
       let l = read tree whole.columns (whole.asks db.schema tree f) in
       none_read encode fits by_rowid IsShaped law l.rows (given_rows by_rowid (db.trees tree)) (exact sql table by_rowid whole db sound tree f l.rows l.apart l.shown) l.lack

@@ -7,7 +7,6 @@ use Rattle.sqlite.specs.Effect.{Database}
 use Rattle.sqlite.specs.Order.{Row}
 use Rattle.sqlite.specs.Table.{Table}
 use Rattle.sqlite_keyed.proofs.RuleLemmas.{first_of_both, second_of_both}
-use Rattle.store_data.specs.declared.row.Product.{Product}
 use Rattle.job_facts.specs.Contents.{Entry, Mark}
 use Rattle.sql_base.specs.Rowids.{AreApart}
 use Rattle.sql_tables.specs.Tables.{batch_at, blank_at, grouping_at, lot_at, mark_at, our_schema, product_at, record_at, remake_at, reply_at, session_at, word_at}
@@ -17,13 +16,13 @@ use Rattle.sql_tables.specs.Ours.{AreThere, HasTable}
 use Rattle.sql_tables.specs.Versions.{numbered_version_at, schema_of, unmixed_grouping_at}
 use Rattle.sql_tables.specs.declared.versions.Version.{Version}
 use Rattle.sql_tables.specs.declared.versions.Version.TheVariants.{One, Two, Three}
-use Rattle.table_rows.specs.Tables.{HaveSameRows, StoredBatch, StoredBlank, StoredGrouping, StoredLot, StoredRecord, StoredRemake, StoredSession, StoredWord, Tables}
+use Rattle.table_rows.specs.Tables.{HaveSameRows, Tables}
 use Rattle.table_reads.specs.Holding.{Holds, HoldsMarks, HoldsRows, SaysVersion, groupings_at}
-use Rattle.sql_rows.specs.Encoding.{batch_row, blank_row, grouping_row, lot_row, mark_row, product_row, record_row, remake_row, reply_row, session_row, word_row}
+use Rattle.sql_rows.specs.Encoding.{batch_row, blank_row, grouping_row, lot_row, product_row, record_row, remake_row, reply_row, session_row, word_row}
 use Rattle.sql_rows.specs.Decoding.{reply_of}
 use Rattle.sql_rows.specs.Image.{given_rows}
 use Rattle.sql_rows.proofs.OneImage.{same_typed}
-use Rattle.table_reads.specs.Reading.{Has, HasForAudit, HasGroupings, HasMarks, HasMost, HasWhole, HoldsNoneOf, MarksAre, held_of, most_tables}
+use Rattle.table_reads.specs.Reading.{Has, HasForAudit, HasGroupings, HasMarks, HasMost, HoldsNoneOf, MarksAre, held_of}
 use Rattle.table_reads.specs.Replies.{StandWithoutBytes}
 use Rattle.table_reads.specs.Shown.{IsAny}
 use Rattle.table_reads.specs.Unread.{without_reply_bytes}
@@ -35,6 +34,7 @@ use Rattle.table_reads.proofs.Found.{all_found}
 use Rattle.table_reads.proofs.OneVersion.{one_number, one_row, ours_alone}
 use Rattle.table_reads.proofs.Together.{last_found, then_found}
 use Rattle.table_reads.proofs.TableReads.{IsRead}
+use Rattle.table_reads.specs.declared.tables.MostRows.{MostRows}
 
 at : (table : ℕ → Table) (by_rowid : Bool) (rows : List Row) (db : Database) (n : ℕ) → Finds db.schema (table n) → Has table by_rowid rows db → Holds table by_rowid rows db
 at table by_rowid rows db n finds has = record { number = n; finds = finds; rows_are = has n finds }
@@ -89,8 +89,9 @@ replies_there Three db there = let it = there.1.1.1.1.1.1.1.1.1.1.0 in record { 
 
 -- ---- rowids
 
-and_more : (x y : Bool) (A B : Type 0) → IsTrue x ↔ A → IsTrue y ↔ B → IsTrue (x && y) ↔ (A × B)
-and_more x y A B one two = ((λ h. (one.0 (first_of_both x y h), two.0 (second_of_both x y h))), (λ both. let e = one.1 both.0 in let f = two.1 both.1 in rw (e, f) refl))
+infixl 10 ◌⊓◌
+◌⊓◌ : {x y : Bool} {A B : Type 0} → IsTrue x ↔ A → IsTrue y ↔ B → IsTrue (x && y) ↔ (A × B)
+◌⊓◌ {x} {y} one two = ((λ h. (one.0 (first_of_both x y h), two.0 (second_of_both x y h))), (λ both. let e = one.1 both.0 in let f = two.1 both.1 in rw (e, f) refl))
 
 -- The rowid of a single row is different from all others.
 single_is : (row : Row) (rows : List Row) → IsPermutation (row ∷ []) rows → rows ≡ row ∷ []
@@ -118,13 +119,8 @@ for_audit v db held most replies brief just there says =
       apart = λ ours.
           let three = ours_alone v db says ours in
           let own = version_apart db ours (subst (λ w. SaysVersion w db) three says) in
-          let both = and_more held.apart replies.apart _ _ (most.apart three ours) (brief 19 (subst (λ s. Finds s (reply_at 19)) (sym ours) all_found.1.1.1.1.1.1.1.1.1.1.0)).1 in (
-            (λ h.
-                let t = both.0 h in
-                let m = t.0 in
-                (own, (m.0, (m.1.0, (m.1.1.0, (m.1.1.1.0, (m.1.1.1.1.0, (m.1.1.1.1.1.0, (m.1.1.1.1.1.1.0, (m.1.1.1.1.1.1.1.0, (m.1.1.1.1.1.1.1.1.0, (t.1, (m.1.1.1.1.1.1.1.1.1.0, tt))))))))))))),
-            (λ all. let m = all.1 in both.1 ((m.0, (m.1.0, (m.1.1.0, (m.1.1.1.0, (m.1.1.1.1.0, (m.1.1.1.1.1.0, (m.1.1.1.1.1.1.0, (m.1.1.1.1.1.1.1.0, (m.1.1.1.1.1.1.1.1.0, (m.1.1.1.1.1.1.1.1.1.1.0, tt)))))))))), m.1.1.1.1.1.1.1.1.1.0)),
-          );
+          let both = most.apart three ours ⊓ (brief 19 (subst (λ s. Finds s (reply_at 19)) (sym ours) all_found.1.1.1.1.1.1.1.1.1.1.0)).1 in
+          ((λ h. let parts = both.0 h in assumption), (λ all. both.1 (assumption)));
     }
 
 -- the result of reading replies without their bytes
@@ -145,34 +141,9 @@ put_together v db held most found replies is read t rows apart same_tables same_
 
 -- the rows with the bytes of replies
 pub with_bytes : (v : Version) (db : Database) (tables t : Tables) → HoldsRows v t db → HaveSameRows tables (without_reply_bytes t) → (replies : List Entry) → Has reply_at false (map reply_row replies) db → HaveSameRows (record tables { replies = replies }) t
-with_bytes v db tables t holds same replies has = record {
-  products = same.products;
-  lots = same.lots;
-  batches = same.batches;
-  records = same.records;
-  groupings = same.groupings;
-  sessions = same.sessions;
-  words = same.words;
-  blanks = same.blanks;
-  remakes = same.remakes;
-  replies = same_typed reply_row reply_of (λ e. refl) replies t.replies _ (has holds.replies.number holds.replies.finds) holds.replies.rows_are;
-  marks = same.marks;
-}
-
-module _ (db : Database) (products : TableRows Product) (lots : TableRows StoredLot) (batches : TableRows StoredBatch) (records : TableRows StoredRecord) (groupings : TableRows StoredGrouping) (sessions : TableRows StoredSession) (words : TableRows StoredWord) (blanks : TableRows StoredBlank) (remakes : TableRows StoredRemake) (marks : TableRows Mark) where
-  most_apart : db.schema ≡ our_schema → HasWhole product_at false product_row db products → HasWhole lot_at false lot_row db lots → HasWhole batch_at true batch_row db batches → HasWhole record_at false record_row db records
-      → HasWhole grouping_at false grouping_row db groupings → HasWhole session_at true session_row db sessions → HasWhole word_at false word_row db words → HasWhole blank_at true blank_row db blanks
-      → HasWhole remake_at false remake_row db remakes → HasWhole mark_at false mark_row db marks
-      → IsTrue (((((((((products.apart && lots.apart) && batches.apart) && records.apart) && groupings.apart) && sessions.apart) && words.apart) && blanks.apart) && remakes.apart) && marks.apart)
-      ↔ AllByRecursion (λ t. AreApart (db.trees t.tree)) most_tables
-  most_apart ours p l b r g s w k m n =
-      let found = subst (λ x. AllByRecursion (Finds x) our_schema.tables) (sym ours) all_found in
-      let all = and_more _ _ _ _ (and_more _ _ _ _ (and_more _ _ _ _ (and_more _ _ _ _ (and_more _ _ _ _ (and_more _ _ _ _ (and_more _ _ _ _ (and_more _ _ _ _ (and_more _ _ _ _
-      (p 1 found.1.0).1 (l 3 found.1.1.0).1) (b 5 found.1.1.1.0).1) (r 7 found.1.1.1.1.0).1) (g 10 found.1.1.1.1.1.0).1) (s 12 found.1.1.1.1.1.1.0).1) (w 14 found.1.1.1.1.1.1.1.0).1) (k 16 found.1.1.1.1.1.1.1.1.0).1)
-      (m 17 found.1.1.1.1.1.1.1.1.1.0).1) (n 21 found.1.1.1.1.1.1.1.1.1.1.1.0).1 in (
-        (λ h. let t = all.0 h in (t.0.0.0.0.0.0.0.0.0, (t.0.0.0.0.0.0.0.0.1, (t.0.0.0.0.0.0.0.1, (t.0.0.0.0.0.0.1, (t.0.0.0.0.0.1, (t.0.0.0.0.1, (t.0.0.0.1, (t.0.0.1, (t.0.1, (t.1, tt))))))))))),
-        (λ t. all.1 (((((((((t.0, t.1.0), t.1.1.0), t.1.1.1.0), t.1.1.1.1.0), t.1.1.1.1.1.0), t.1.1.1.1.1.1.0), t.1.1.1.1.1.1.1.0), t.1.1.1.1.1.1.1.1.0), t.1.1.1.1.1.1.1.1.1.0)),
-      )
+with_bytes v db tables t holds same replies has =
+    let read = same_typed reply_row reply_of (λ e. refl) replies t.replies _ (has holds.replies.number holds.replies.finds) holds.replies.rows_are in
+    assumption
 
 -- ---- all tables except `reply`, if each was read
 
@@ -181,40 +152,47 @@ marks_are One db all has = has
 marks_are Two db all has = λ tree f. (has tree f).0
 marks_are Three db all has = λ tree f. (has tree f).0
 
-pub most_read : (v : Version) (db : Database) (products : Option (TableRows Product)) (lots : Option (TableRows StoredLot)) (batches : Option (TableRows StoredBatch)) (records : Option (TableRows StoredRecord)) (groupings : Option (TableRows StoredGrouping)) (sessions : Option (TableRows StoredSession)) (words : Option (TableRows StoredWord)) (blanks : Option (TableRows StoredBlank)) (remakes : Option (TableRows StoredRemake)) (marks : Option (TableRows Mark))
-    → IsRead v product_row product_at false db products
-    → IsRead v lot_row lot_at false db lots
-    → IsRead v batch_row batch_at true db batches
-    → IsRead v record_row record_at false db records
-    → MatchOption groupings (HoldsNoneOf v db) (HasGroupings v db)
-    → IsRead v session_row session_at true db sessions
-    → IsRead v word_row word_at false db words
-    → IsRead v blank_row blank_at true db blanks
-    → IsRead v remake_row remake_at false db remakes
-    → MatchOption marks (HoldsNoneOf v db) (HasMarks v db)
-    → MatchOption (held_of products lots batches records groupings sessions words blanks remakes marks) (HoldsNoneOf v db) (HasMost v db)
-most_read v db products lots batches records groupings sessions words blanks remakes marks p l b r g s w k m n =
-    then_found _ _ _ _ products p (λ all_products has_products.
-    then_found _ _ _ _ lots l (λ all_lots has_lots.
-    then_found _ _ _ _ batches b (λ all_batches has_batches.
-    then_found _ _ _ _ records r (λ all_records has_records.
-    then_found _ _ _ _ groupings g (λ all_groupings has_groupings.
-    then_found _ _ _ _ sessions s (λ all_sessions has_sessions.
-    then_found _ _ _ _ words w (λ all_words has_words.
-    then_found _ _ _ _ blanks k (λ all_blanks has_blanks.
-    then_found _ _ _ _ remakes m (λ all_remakes has_remakes.
-    last_found _ _ _ _ marks n (λ all_marks has_marks. record {
-      products = λ tree f. (has_products tree f).0;
-      lots = λ tree f. (has_lots tree f).0;
-      batches = λ tree f. (has_batches tree f).0;
-      records = λ tree f. (has_records tree f).0;
-      groupings = λ tree f. (has_groupings tree f).0;
-      sessions = λ tree f. (has_sessions tree f).0;
-      words = λ tree f. (has_words tree f).0;
-      blanks = λ tree f. (has_blanks tree f).0;
-      remakes = λ tree f. (has_remakes tree f).0;
-      marks = marks_are v db all_marks has_marks;
+-- Each table was read, or the database holds no rows of the version.
+pub record AreRead (v : Version) (db : Database) (found : MostRows) : Type 0 where
+  pub products : IsRead v product_row product_at false db found.products
+  pub lots : IsRead v lot_row lot_at false db found.lots
+  pub batches : IsRead v batch_row batch_at true db found.batches
+  pub records : IsRead v record_row record_at false db found.records
+  pub groupings : MatchOption found.groupings (HoldsNoneOf v db) (HasGroupings v db)
+  pub sessions : IsRead v session_row session_at true db found.sessions
+  pub words : IsRead v word_row word_at false db found.words
+  pub blanks : IsRead v blank_row blank_at true db found.blanks
+  pub remakes : IsRead v remake_row remake_at false db found.remakes
+  pub marks : MatchOption found.marks (HoldsNoneOf v db) (HasMarks v db)
+
+pub most_read : (v : Version) (db : Database) (found : MostRows) → AreRead v db found → MatchOption (held_of found) (HoldsNoneOf v db) (HasMost v db)
+most_read v db found read =
+    then_found _ _ _ _ found.products read.products (λ _ products.
+    then_found _ _ _ _ found.lots read.lots (λ _ lots.
+    then_found _ _ _ _ found.batches read.batches (λ _ batches.
+    then_found _ _ _ _ found.records read.records (λ _ records.
+    then_found _ _ _ _ found.groupings read.groupings (λ of_groupings groupings.
+    then_found _ _ _ _ found.sessions read.sessions (λ _ sessions.
+    then_found _ _ _ _ found.words read.words (λ _ words.
+    then_found _ _ _ _ found.blanks read.blanks (λ _ blanks.
+    then_found _ _ _ _ found.remakes read.remakes (λ _ remakes.
+    last_found _ _ _ _ found.marks read.marks (λ of_marks marks. record {
+      products = λ tree f. (products tree f).0;
+      lots = λ tree f. (lots tree f).0;
+      batches = λ tree f. (batches tree f).0;
+      records = λ tree f. (records tree f).0;
+      groupings = λ tree f. (groupings tree f).0;
+      sessions = λ tree f. (sessions tree f).0;
+      words = λ tree f. (words tree f).0;
+      blanks = λ tree f. (blanks tree f).0;
+      remakes = λ tree f. (remakes tree f).0;
+      marks = marks_are v db of_marks marks;
       apart = λ three ours.
-          most_apart db all_products all_lots all_batches all_records all_groupings all_sessions all_words all_blanks all_remakes all_marks ours has_products has_lots has_batches has_records
-          (subst (λ x. HasGroupings x db all_groupings) three has_groupings) has_sessions has_words has_blanks has_remakes (subst (λ x. HasMarks x db all_marks) three has_marks);
+          let f = subst (λ s. AllByRecursion (Finds s) our_schema.tables) (sym ours) all_found in
+          let mixed = subst (λ w. HasGroupings w db of_groupings) three groupings in
+          let released = subst (λ w. HasMarks w db of_marks) three marks in
+          let all =
+          (products 1 f.1.0).1 ⊓ (lots 3 f.1.1.0).1 ⊓ (batches 5 f.1.1.1.0).1 ⊓ (records 7 f.1.1.1.1.0).1 ⊓ (mixed 10 f.1.1.1.1.1.0).1 ⊓ (sessions 12 f.1.1.1.1.1.1.0).1
+          ⊓ (words 14 f.1.1.1.1.1.1.1.0).1 ⊓ (blanks 16 f.1.1.1.1.1.1.1.1.0).1 ⊓ (remakes 17 f.1.1.1.1.1.1.1.1.1.0).1 ⊓ (released 21 f.1.1.1.1.1.1.1.1.1.1.1.0).1 in
+          ((λ h. let parts = all.0 h in assumption), (λ parts. all.1 (assumption)));
     }))))))))))

@@ -1,6 +1,5 @@
 -- The result of each read, for all tables.
-use Rattle.std.proofs.Common.{◌↔◌, ℕ, Bool, false, List, map, Option, MatchOption, All, IsTrue}
-use Rattle.std.specs.List.Sorted.{IsPermutation}
+use Rattle.std.proofs.Common.{ℕ, Bool, false, List, map, Option, MatchOption, All, IsTrue}
 use Rattle.sqlite.specs.Effect.{Database}
 use Rattle.sqlite.specs.Order.{Row}
 use Rattle.sqlite.specs.State.{State}
@@ -8,28 +7,23 @@ use Rattle.sqlite.specs.Table.{Table}
 use Rattle.job_facts.specs.Contents.{Mark}
 use Rattle.table_rows.specs.Tables.{StoredGrouping, Tables}
 use Rattle.sql_base.specs.Ends.{IsKept}
-use Rattle.sql_base.specs.Rowids.{AreApart}
 use Rattle.sql_tables.specs.Tables.{grouping_at, mark_at}
 use Rattle.sql_rows.specs.Encoding.{grouping_row, mark_row}
-use Rattle.sql_rows.specs.Image.{given_rows}
-use Rattle.sql_tables.specs.Finds.{Finds}
 use Rattle.sql_tables.specs.Versions.{unmixed_grouping_at}
 use Rattle.sql_tables.specs.declared.versions.Version.{Version}
 use Rattle.sql_tables.specs.declared.versions.Version.TheVariants.{One, Two, Three}
 use Rattle.table_reads.specs.Shown.{FitsGrouping, IsAny}
-use Rattle.table_reads.specs.Whole.{IsWhole, NoneFit}
+use Rattle.table_reads.specs.Whole.{IsWhole}
 use Rattle.table_reads.proofs.Meanings.{wholes}
 use Rattle.table_reads.specs.Texts.{groupings_text, marks_text, unmixed_groupings_text}
 use Rattle.table_reads.specs.Holding.{Holds, HoldsRows}
-use Rattle.table_reads.specs.Reading.{Fit, HasGroupings, HasMarks, HasWhole, HoldsNoneOf, Reads}
+use Rattle.table_reads.specs.Reading.{Fit, HasGroupings, HasMarks, HasWhole, HoldsNoneOf, Reads, ReadsTable}
 use Rattle.table_reads.specs.declared.reads.TableRows.{TableRows}
 use Rattle.table_reads.proofs.Together.{carried, found_as}
 
 -- the result of reading one whole table
 abbrev pub Answers : {X : Type 0} → List ℕ → (X → Row) → (X → Type 0) → Bool → State → Option (TableRows X) → Type 0
-Answers sql encode fits by_rowid s found =
-    IsTrue s.is_open
-    × ((table : ℕ → Table) → IsWhole sql table by_rowid → (tree : ℕ) → Finds s.now.schema (table tree) → MatchOption found (NoneFit encode fits (given_rows by_rowid (s.now.trees tree))) (λ all. IsPermutation (map encode all.rows.items) (given_rows by_rowid (s.now.trees tree)) × (IsTrue all.apart ↔ AreApart (s.now.trees tree))))
+Answers sql encode fits by_rowid s found = IsTrue s.is_open × ReadsTable encode fits by_rowid sql s.now found
 
 -- The rows of the table were read, or the database holds no rows of the version.
 abbrev pub IsRead : {X : Type 0} → Version → (X → Row) → (ℕ → Table) → Bool → Database → Option (TableRows X) → Type 0

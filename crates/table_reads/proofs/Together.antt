@@ -1,18 +1,16 @@
 -- Several reads, one after the other, and their result for all tables.
-use Rattle.std.proofs.Common.{ℕ, Bool, List, map, Option, Some, None, MatchOption, All, IsTrue, ◌↔◌, subst, arith}
+use Rattle.std.proofs.Common.{ℕ, Bool, List, map, Option, Some, None, MatchOption, All, subst, arith}
 use Rattle.std.specs.Prelude.{option_map, option_and_then}
-use Rattle.std.specs.List.Sorted.{IsPermutation}
 use Rattle.sqlite.specs.Effect.{Database}
 use Rattle.sqlite.specs.Order.{Row}
 use Rattle.sqlite.specs.State.{HasCleanDisk, State, Survives}
 use Rattle.sqlite.specs.Table.{Table}
 use Rattle.sql_base.specs.Ends.{IsKept}
-use Rattle.sql_base.specs.Rowids.{AreApart}
 use Rattle.sql_rows.specs.Image.{given_rows}
 use Rattle.sql_tables.specs.Finds.{Finds}
 use Rattle.table_reads.specs.Whole.{NoneFit}
 use Rattle.table_reads.specs.Holding.{Holds}
-use Rattle.table_reads.specs.Reading.{HasWhole, Reads}
+use Rattle.table_reads.specs.Reading.{HasAll, HasWhole, Reads}
 use Rattle.table_reads.specs.declared.reads.TableRows.{TableRows}
 
 -- ---- states
@@ -25,7 +23,7 @@ early old new survives clean = omega (arith, survives.clean)
 -- the result for one table
 pub found_as : {X : Type 0} (encode : X → Row) (fits : X → Type 0) (table : ℕ → Table) (by_rowid : Bool) (db : Database) (Refused : Type 0)
     → (((xs : List X) → All fits xs → Holds table by_rowid (map encode xs) db → ⊥) → Refused) → (found : Option (TableRows X))
-    → ((tree : ℕ) → Finds db.schema (table tree) → MatchOption found (NoneFit encode fits (given_rows by_rowid (db.trees tree))) (λ all. IsPermutation (map encode all.rows.items) (given_rows by_rowid (db.trees tree)) × (IsTrue all.apart ↔ AreApart (db.trees tree))))
+    → ((tree : ℕ) → Finds db.schema (table tree) → MatchOption found (NoneFit encode fits (given_rows by_rowid (db.trees tree))) (HasAll encode by_rowid (db.trees tree)))
     → MatchOption found Refused (HasWhole table by_rowid encode db)
 found_as encode fits table by_rowid db Refused refuses (Some all) h = h
 found_as encode fits table by_rowid db Refused refuses None h = refuses (λ xs fit held. h held.number held.finds xs fit held.rows_are)

@@ -1,8 +1,9 @@
 -- The values to which the rows of a query for a whole table are converted.
-use Rattle.std.specs.Prelude.{ℕ, Bool, List, All, MatchOption, Option}
+use Rattle.std.specs.Prelude.{ℕ, Bool, List, All, IsTrue, MatchOption, Option}
 use Rattle.std.specs.List.{AllZip}
-use Rattle.sqlite.specs.Effect.{Database}
+use Rattle.sqlite.specs.Effect.{Database, IsDatabase}
 use Rattle.sqlite.specs.Order.{Row}
+use Rattle.sqlite.specs.State.{State}
 use Rattle.sqlite.specs.Term.{Term}
 use Rattle.table_reads.specs.Whole.{AreShown, Asks, with_rowid}
 use Rattle.table_reads.specs.declared.reads.TableRows.{TableRows}
@@ -27,3 +28,7 @@ abbrev pub AreConverted : {X : Type 0} → (Row → Type 0) → (Row → X → T
 AreConverted is_row gives sql db found =
     (tree : ℕ) (columns : List Term) → Asks db.schema sql tree (with_rowid columns)
     → MatchOption found (LackShape is_row (with_rowid columns) (db.trees tree)) (λ all. AreTyped gives (with_rowid columns) (db.trees tree) all.rows.items all.apart)
+
+-- The connection was open, and showed a database from which `found` was read.
+abbrev pub ReadsConverted : {X : Type 0} → (Row → Type 0) → (Row → X → Type 0) → List ℕ → State → Option (TableRows X) → Type 0
+ReadsConverted is_row gives sql old found = IsTrue old.is_open × IsDatabase old.now × AreConverted is_row gives sql old.now found

@@ -5,10 +5,9 @@ use Rattle.sqlite.specs.Effect.{Database}
 use Rattle.sqlite.specs.Order.{Row}
 use Rattle.sqlite.specs.State.{State}
 use Rattle.sqlite.specs.Table.{Table}
-use Rattle.store_data.specs.declared.row.Product.{Product}
 use Rattle.sql_base.specs.Rowids.{AreApart}
 use Rattle.job_facts.specs.Contents.{Mark}
-use Rattle.table_rows.specs.Tables.{StoredBatch, StoredBlank, StoredGrouping, StoredLot, StoredRecord, StoredRemake, StoredSession, StoredWord, Tables}
+use Rattle.table_rows.specs.Tables.{StoredGrouping, Tables}
 use Rattle.sql_tables.specs.Tables.{batch_at, batch_table, blank_at, blank_table, grouping_table, lot_at, lot_table, mark_at, mark_table, our_schema, product_at, product_table, record_at, record_table, remake_at, remake_table, session_at, session_table, word_at, word_table}
 use Rattle.sql_rows.specs.Encoding.{batch_row, blank_row, grouping_row, lot_row, mark_row, product_row, record_row, remake_row, session_row, word_row}
 use Rattle.sql_rows.specs.Image.{given_rows}
@@ -22,8 +21,10 @@ use Rattle.table_reads.specs.Shown.{FitsGrouping, FitsLot, FitsProduct, FitsWord
 use Rattle.table_reads.specs.Holding.{HoldsRows, SaysVersion, groupings_at}
 use Rattle.table_reads.specs.Rowids.{HasRowidsApart}
 use Rattle.table_reads.specs.Unread.{without_reply_bytes}
+use Rattle.table_reads.specs.Whole.{IsWhole, NoneFit}
 use Rattle.table_reads.specs.declared.reads.TableRows.{TableRows}
 use Rattle.table_reads.specs.declared.tables.HeldRows.{HeldRows}
+use Rattle.table_reads.specs.declared.tables.MostRows.{MostRows}
 
 -- The numbers in the rows of `t` are in the ranges of the program's types.
 pub record Fit (t : Tables) : Type 0 where
@@ -41,6 +42,20 @@ HoldsNoneOf v db = (t : Tables) → Fit t → HoldsRows v t db → ⊥
 abbrev pub Reads : {X : Type 0} → (Database → Type 0) → (Database → X → Type 0) → State → Option X → Type 0
 Reads Refused Found old found = IsTrue old.is_open × MatchOption found (Refused old.now) (Found old.now)
 
+-- ---- one table
+
+-- `all` has the rows of a table that stores `stored`, in any order. `apart` tells whether all rowids
+-- are different.
+abbrev pub HasAll : {X : Type 0} → (X → Row) → Bool → List Row → TableRows X → Type 0
+HasAll encode by_rowid stored all = IsPermutation (map encode all.rows.items) (given_rows by_rowid stored) × (IsTrue all.apart ↔ AreApart stored)
+
+-- The text `sql` is a query for a whole table, and `found` has all its rows. It is `None` if they
+-- aren't typed rows with numbers in range.
+abbrev pub ReadsTable : {X : Type 0} → (X → Row) → (X → Type 0) → Bool → List ℕ → Database → Option (TableRows X) → Type 0
+ReadsTable encode fits by_rowid sql db found =
+    (table : ℕ → Table) → IsWhole sql table by_rowid → (tree : ℕ) → Finds db.schema (table tree)
+    → MatchOption found (NoneFit encode fits (given_rows by_rowid (db.trees tree))) (HasAll encode by_rowid (db.trees tree))
+
 -- ---- tables, under any tree number
 
 -- The rows of the table are exactly `rows`, in any order.
@@ -49,8 +64,7 @@ Has table by_rowid rows db = (tree : ℕ) → Finds db.schema (table tree) → I
 
 -- The rows were read, and `apart` tells whether all rowids are different.
 abbrev pub HasWhole : {X : Type 0} → (ℕ → Table) → Bool → (X → Row) → Database → TableRows X → Type 0
-HasWhole table by_rowid encode db all =
-    (tree : ℕ) → Finds db.schema (table tree) → IsPermutation (map encode all.rows.items) (given_rows by_rowid (db.trees tree)) × (IsTrue all.apart ↔ AreApart (db.trees tree))
+HasWhole table by_rowid encode db all = (tree : ℕ) → Finds db.schema (table tree) → HasAll encode by_rowid (db.trees tree) all
 
 abbrev pub HasGroupings : Version → Database → TableRows StoredGrouping → Type 0
 HasGroupings v db all = HasWhole (groupings_at v) false grouping_row db all
@@ -64,9 +78,8 @@ HasMarks Three db all = HasWhole mark_at false mark_row db all
 -- ---- all tables except `reply`
 
 -- the rows of all tables, if the rows of every table were read
-abbrev pub held_of : Option (TableRows Product) → Option (TableRows StoredLot) → Option (TableRows StoredBatch) → Option (TableRows StoredRecord) → Option (TableRows StoredGrouping) → Option (TableRows StoredSession)
-    → Option (TableRows StoredWord) → Option (TableRows StoredBlank) → Option (TableRows StoredRemake) → Option (TableRows Mark) → Option HeldRows
-held_of of_products of_lots of_batches of_records of_groupings of_sessions of_words of_blanks of_remakes of_marks =
+abbrev pub held_of : MostRows → Option HeldRows
+held_of found =
     option_and_then (λ products.
     option_and_then (λ lots.
     option_and_then (λ batches.
@@ -91,7 +104,7 @@ held_of of_products of_lots of_batches of_records of_groupings of_sessions of_wo
         marks = marks.rows.items;
       };
       apart = ((((((((products.apart && lots.apart) && batches.apart) && records.apart) && groupings.apart) && sessions.apart) && words.apart) && blanks.apart) && remakes.apart) && marks.apart;
-    }) of_marks) of_remakes) of_blanks) of_words) of_sessions) of_groupings) of_records) of_batches) of_lots) of_products
+    }) found.marks) found.remakes) found.blanks) found.words) found.sessions) found.groupings) found.records) found.batches) found.lots) found.products
 
 -- the tables of the current schema except `version` and `reply`
 abbrev pub most_tables : List Table

@@ -1,17 +1,13 @@
 //! Reads a whole table, regardless of the order of its rows and its tree number.
-ghost use Rattle.std.specs.Prelude.{◌≡◌, ◌↔◌, ℕ, false, map, List, IfOk, IsPermutation};
-ghost use Rattle.std.specs.Prelude.{IsTrue, MatchOption};
+ghost use Rattle.std.specs.Prelude.{◌≡◌, ℕ, false, List, IfOk, IsTrue};
 ghost use Rattle.sqlite.specs.Effect.{IsDatabase};
 ghost use Rattle.sqlite.specs.Held.{state};
 ghost use Rattle.sqlite.specs.State.{HasCleanDisk};
-ghost use Rattle.sqlite.specs.Table.{Table};
 ghost use Rattle.sqlite.specs.Term.{Term};
-ghost use Rattle.sql_base.specs.Rowids.{AreApart};
 ghost use Rattle.sql_base.specs.Unchanged.{LooksWithCause};
-ghost use Rattle.sql_tables.specs.Finds.{Finds};
-ghost use Rattle.sql_rows.specs.Image.{given_rows};
-ghost use Rattle.table_reads.specs.Converted.{AreConverted};
-ghost use Rattle.table_reads.specs.Whole.{AreShown, Asks, IsWhole, NoneFit, with_rowid};
+ghost use Rattle.table_reads.specs.Converted.{ReadsConverted};
+ghost use Rattle.table_reads.specs.Reading.{ReadsTable};
+ghost use Rattle.table_reads.specs.Whole.{AreShown, Asks, with_rowid};
 
 use crate::conversion::{Conversion, all_in};
 use crate::rowids::{are_rising, sort_rowids};
@@ -59,9 +55,7 @@ fn collected<X: Drop, C: Conversion<X>, S: Alter>(
 ) -> Result<Option<TableRows<X>>, Error>
     requires { conn.old.in_transaction ≡ false }
     ensures value { HasCleanDisk (state S.Store conn.new) → IfOk result
-        (λ found. IsTrue (state S.Store conn.old).is_open
-        × IsDatabase (state S.Store conn.old).now
-        × AreConverted C.is_row C.gives sql.now (state S.Store conn.old).now found) }
+        (ReadsConverted C.is_row C.gives sql.now (state S.Store conn.old)) }
     ensures looks { LooksWithCause S.Store conn.old conn.new result }
 {
     let shown = shown_rows(conn, sql)?;
@@ -84,9 +78,7 @@ pub(crate) fn converted<X: Drop, C: Conversion<X>, S: Alter>(
 ) -> Result<Option<TableRows<X>>, Error>
     requires { conn.old.in_transaction ≡ false }
     ensures value { HasCleanDisk (state S.Store conn.new) → IfOk result
-        (λ found. IsTrue (state S.Store conn.old).is_open
-        × IsDatabase (state S.Store conn.old).now
-        × AreConverted C.is_row C.gives sql.now (state S.Store conn.old).now found) }
+        (ReadsConverted C.is_row C.gives sql.now (state S.Store conn.old)) }
     ensures looks { LooksWithCause S.Store conn.old conn.new result }
 {
     if let Some(rows) = streamed::<X, C, S>(alloc, conn, sql)? {
@@ -105,15 +97,28 @@ pub fn whole<T: Stored, S: Alter>(
 ) -> Result<Option<TableRows<T>>, Error>
     requires { conn.old.in_transaction ≡ false }
     ensures value { HasCleanDisk (state S.Store conn.new) → IfOk result
-        (λ found. IsTrue (state S.Store conn.old).is_open × ((table : ℕ → Table)
-        → IsWhole sql.now table T.by_rowid → (tree : ℕ)
-        → Finds (state S.Store conn.old).now.schema (table tree) → MatchOption found
-        (NoneFit T.encode T.fits
-        (given_rows T.by_rowid ((state S.Store conn.old).now.trees tree)))
-        (λ all. IsPermutation (map T.encode all.rows.items)
-        (given_rows T.by_rowid ((state S.Store conn.old).now.trees tree))
-        × (IsTrue all.apart ↔ AreApart ((state S.Store conn.old).now.trees tree))))) }
+        (λ found. IsTrue (state S.Store conn.old).is_open
+        × ReadsTable T.encode T.fits T.by_rowid sql.now (state S.Store conn.old).now found) }
     ensures looks { LooksWithCause S.Store conn.old conn.new result }
 {
     converted::<T, WholeRow, S>(alloc, conn, sql)
+}
+
+/// Reads the tables of the queries `first` and `second`, each as [`whole`] does.
+pub(crate) fn both<T: Stored, U: Stored, S: Alter>(
+    alloc: Global,
+    conn: &mut Connection<S>,
+    first: &str,
+    second: &str,
+) -> Result<(Option<TableRows<T>>, Option<TableRows<U>>), Error>
+    requires { conn.old.in_transaction ≡ false }
+    ensures value { HasCleanDisk (state S.Store conn.new) → IfOk result
+        (λ found. IsTrue (state S.Store conn.old).is_open
+        × ReadsTable T.encode T.fits T.by_rowid first.now (state S.Store conn.old).now found.0
+        × ReadsTable U.encode U.fits U.by_rowid second.now (state S.Store conn.old).now found.1) }
+    ensures looks { LooksWithCause S.Store conn.old conn.new result }
+{
+    let one = whole(alloc, conn, first)?;
+    let other = whole(alloc, conn, second)?;
+    Ok((one, other))
 }

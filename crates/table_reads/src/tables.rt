@@ -6,7 +6,7 @@ ghost use Rattle.sql_base.specs.Unchanged.{LooksWithCause};
 ghost use Rattle.table_reads.specs.Reading.{HasForAudit, HasGroupings, HasMarks, HasMost};
 ghost use Rattle.table_reads.specs.Reading.{HoldsNoneOf, Reads, held_of};
 
-use crate::reads::{TableRows, whole};
+use crate::reads::{TableRows, both, whole};
 use crate::replies::brief_replies;
 use sql_tables::Version;
 use sqlite::{Alter, Connection, Error};
@@ -51,8 +51,7 @@ fn rows_beside<T: Drop>(table: TableRows<T>, apart: &mut bool) -> Vec<T>
 
 // Returns the rows of all tables except `reply`, if every table was read.
 fn gathered(alloc: Global, found: MostRows) -> Option<HeldRows>
-    ensures { result ≡ held_of found.products found.lots found.batches found.records
-        found.groupings found.sessions found.words found.blanks found.remakes found.marks }
+    ensures { result ≡ held_of found }
 {
     let mut apart = true;
     let tables = Tables {
@@ -122,30 +121,44 @@ fn read_most<S: Alter>(
     ensures looks { LooksWithCause S.Store conn.old conn.new result }
 {
     let marks = marks(alloc, conn, version)?;
-    let words = whole(alloc, conn, "SELECT rowid, * FROM word")?;
-    let sessions = whole(alloc, conn, "SELECT * FROM session")?;
-    let blanks = whole(alloc, conn, "SELECT * FROM blank")?;
-    let records = whole(alloc, conn, "SELECT rowid, * FROM record")?;
-    let groupings = groupings(alloc, conn, version)?;
-    let products = whole(alloc, conn, "SELECT rowid, * FROM product")?;
-    let lots = whole(alloc, conn, "SELECT rowid, * FROM lot")?;
-    let batches = whole(alloc, conn, "SELECT * FROM batch")?;
-    let remakes = whole(alloc, conn, "SELECT rowid, * FROM remake")?;
-    Ok(gathered(
+    let (words, sessions) = both(
         alloc,
-        MostRows {
-            products,
-            lots,
-            batches,
-            records,
-            groupings,
-            sessions,
-            words,
-            blanks,
-            remakes,
-            marks,
-        },
-    ))
+        conn,
+        "SELECT rowid, * FROM word",
+        "SELECT * FROM session",
+    )?;
+    let (blanks, records) = both(
+        alloc,
+        conn,
+        "SELECT * FROM blank",
+        "SELECT rowid, * FROM record",
+    )?;
+    let groupings = groupings(alloc, conn, version)?;
+    let (products, lots) = both(
+        alloc,
+        conn,
+        "SELECT rowid, * FROM product",
+        "SELECT rowid, * FROM lot",
+    )?;
+    let (batches, remakes) = both(
+        alloc,
+        conn,
+        "SELECT * FROM batch",
+        "SELECT rowid, * FROM remake",
+    )?;
+    let found = MostRows {
+        products,
+        lots,
+        batches,
+        records,
+        groupings,
+        sessions,
+        words,
+        blanks,
+        remakes,
+        marks,
+    };
+    Ok(gathered(alloc, found))
 }
 
 /// Reads the rows that the audit needs from the tables of `version`: all rows except the row of

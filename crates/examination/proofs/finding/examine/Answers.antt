@@ -3,7 +3,7 @@ use Rattle.sqlite.specs.Held.{state}
 use Rattle.sqlite.specs.State.{HasCleanDisk}
 use Rattle.examination.specs.Standings.{IsSchemaMatch}
 use Rattle.examination.proofs.FoundLemmas.{none_read, read_judged, stands_as}
-use Rattle.table_reads.proofs.Looking.{looks_past, looks_plainly, looks_then, looks_well}
+use Rattle.table_reads.proofs.Looking.{◌▷◌, looks_past, looks_plainly, looks_well}
 use Rattle.examination.proofs.finding.examine.Goals as goal
 
 pub returns-in-NotOurs-clause-value : goal.returns-in-NotOurs-clause-value
@@ -34,10 +34,10 @@ returns-in_err-found-clause-looks g c =
 pub returns-in_err-held-clause-looks : goal.returns-in_err-held-clause-looks
 returns-in_err-held-clause-looks g c =
     let r = c.from_residual-in_err-held in
-    looks_then c.standing_of.ensures.looks (looks_past c.read_for_audit.ensures.looks r.result c.in_err-held.field-0.0 r.ensures.1 c.in_err-held.ensures.looks.cause)
+    c.standing_of.ensures.looks ▷ looks_past c.read_for_audit.ensures.looks r.result c.in_err-held.field-0.0 r.ensures.1 c.in_err-held.ensures.looks.cause
 
 pub returns-in_default-clause-looks : goal.returns-in_default-clause-looks
-returns-in_default-clause-looks g c = looks_well (looks_then c.standing_of.ensures.looks c.read_for_audit.ensures.looks) _
+returns-in_default-clause-looks g c = looks_well (c.standing_of.ensures.looks ▷ c.read_for_audit.ensures.looks) _
 
 pub returns-clause-looks : goal.returns-clause-looks
-returns-clause-looks g c = looks_then c.standing_of.ensures.looks (looks_plainly c.read_for_audit.ensures.looks c.judged.result c.judged.ensures.cause)
+returns-clause-looks g c = c.standing_of.ensures.looks ▷ looks_plainly c.read_for_audit.ensures.looks c.judged.result c.judged.ensures.cause
