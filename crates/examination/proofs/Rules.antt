@@ -24,39 +24,13 @@ module _ (t : Tables) (es : List Entry) where
   others = record t { replies = es }
 
   session_is : (s : StoredSession) → IsAuditedSession t s → IsAuditedSession others s
-  session_is s a = record {
-    machine = a.machine;
-    batch = a.batch;
-    batch_is = a.batch_is;
-    rec = a.rec;
-    rec_is = a.rec_is;
-    product = a.product;
-    product_is = a.product_is;
-    plan = a.plan;
-    plan_is = a.plan_is;
-    words = a.words;
-    count = a.count;
-    state = a.state;
-    cursor = a.cursor;
-    lot = a.lot;
-    lot_is = a.lot_is;
-    fits = a.fits;
-  }
+  session_is s a = search
 
   record_is : (r : StoredRecord) → IsAuditedRecord t r → IsAuditedRecord others r
-  record_is r a = record { sound = a.sound; state = a.state; spoiled = a.spoiled }
+  record_is r a = search
 
   batch_is : (b : StoredBatch) → IsAuditedBatch t b → IsAuditedBatch others b
-  batch_is b a = record {
-    waiting = a.waiting;
-    running = a.running;
-    failed = a.failed;
-    withdrawn = a.withdrawn;
-    good = a.good;
-    sessions = a.sessions;
-    spoiled = a.spoiled;
-    closed = a.closed;
-  }
+  batch_is b a = search
 
   file_is : (b : StoredBatch) → IsAuditedFile t b → IsAuditedFile others b
   file_is b a = record {
@@ -69,7 +43,7 @@ module _ (t : Tables) (es : List Entry) where
   }
 
   blank_is : (b : StoredBlank) → IsAuditedBlank t b → IsAuditedBlank others b
-  blank_is b a = record { lot = a.lot; lot_is = a.lot_is; named = a.named }
+  blank_is b a = search
 
 -- ---- the rules
 
@@ -107,15 +81,4 @@ module _ (t : Tables) where
   }
 
   pub sorted_whole : AreSorted brief → AreSorted t
-  sorted_whole s = record {
-    in_order = record {
-      batches = s.in_order.batches;
-      records = s.in_order.records;
-      groupings = s.in_order.groupings;
-      sessions = s.in_order.sessions;
-      words = s.in_order.words;
-      remakes = s.in_order.remakes;
-    };
-    lots = s.lots;
-    blanks = s.blanks;
-  }
+  sorted_whole s = assumption

@@ -1,5 +1,6 @@
-//! Finds what a database is: how its tables differ from those of every schema version, or its
-//! version, its rows and the first audit rule that they break.
+//! Examines a database. If it has the tables of a schema version, finds the version, the rows and
+//! the first audit rule that they break. Otherwise, finds how its tables differ from the nearest
+//! version.
 #![tactic(auto)]
 
 mod damage;
