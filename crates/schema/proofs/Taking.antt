@@ -22,19 +22,7 @@ use Rattle.schema.specs.MovesContents.{MovesContents}
 
 -- adds one reply to both tables
 same_with_reply : (entry : Entry) (t u : Tables) → HaveSameRows t u → HaveSameRows (with_reply entry t) (with_reply entry u)
-same_with_reply entry t u same = record {
-  products = same.products;
-  lots = same.lots;
-  batches = same.batches;
-  records = same.records;
-  groupings = same.groupings;
-  sessions = same.sessions;
-  words = same.words;
-  blanks = same.blanks;
-  remakes = same.remakes;
-  replies = IsPermutation-cons entry _ _ same.replies;
-  marks = same.marks;
-}
+same_with_reply entry t u same = search IsPermutation-cons
 
 -- the lemmas about the rows of the next contents
 abbrev pub ReplyLaw : Type 0

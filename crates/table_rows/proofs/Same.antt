@@ -6,19 +6,7 @@ use Rattle.table_rows.specs.Tables.{HaveSameRows, Tables}
 
 -- Tables that differ only in the order of the kept replies and release marks have the same rows.
 pub replies_move : (t : Tables) (es fs : List Entry) (ms ns : List Mark) → IsPermutation es fs → IsPermutation ms ns → HaveSameRows (record t { replies = es; marks = ms }) (record t { replies = fs; marks = ns })
-replies_move t es fs ms ns replies marks = record {
-  products = IsPermutation-refl t.products;
-  lots = IsPermutation-refl t.lots;
-  batches = IsPermutation-refl t.batches;
-  records = IsPermutation-refl t.records;
-  groupings = IsPermutation-refl t.groupings;
-  sessions = IsPermutation-refl t.sessions;
-  words = IsPermutation-refl t.words;
-  blanks = IsPermutation-refl t.blanks;
-  remakes = IsPermutation-refl t.remakes;
-  replies = replies;
-  marks = marks;
-}
+replies_move t es fs ms ns replies marks = search IsPermutation-refl
 
 -- Tables have the same rows as themselves.
 pub itself : (t : Tables) → HaveSameRows t t

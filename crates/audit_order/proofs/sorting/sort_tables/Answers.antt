@@ -8,34 +8,10 @@ seen : (t u v : Tables) → u ≡ t → HaveSameRows u v → HaveSameRows t v
 seen t u v is same = subst (λ (w : Tables). HaveSameRows w v) is same
 
 pub returns-in_err-sort_rows-3-clause-same : goal.returns-in_err-sort_rows-3-clause-same
-returns-in_err-sort_rows-3-clause-same c = seen _ _ _ c.tables.view_is (record {
-  products = IsPermutation-refl _;
-  lots = c.sort_rows.ensures.same;
-  batches = c.sort_rows-2.ensures.same;
-  records = c.sort_rows-3.ensures.same;
-  groupings = IsPermutation-refl _;
-  sessions = IsPermutation-refl _;
-  words = IsPermutation-refl _;
-  blanks = IsPermutation-refl _;
-  remakes = IsPermutation-refl _;
-  replies = IsPermutation-refl _;
-  marks = IsPermutation-refl _;
-})
+returns-in_err-sort_rows-3-clause-same c = seen _ _ _ c.tables.view_is (search IsPermutation-refl)
 
 pub returns-in_err-sort_rows-6-clause-same : goal.returns-in_err-sort_rows-6-clause-same
-returns-in_err-sort_rows-6-clause-same c = seen _ _ _ c.tables.view_is (record {
-  products = IsPermutation-refl _;
-  lots = c.sort_rows.ensures.same;
-  batches = c.sort_rows-2.ensures.same;
-  records = c.sort_rows-3.ensures.same;
-  groupings = c.sort_rows-4.ensures.same;
-  sessions = c.sort_rows-5.ensures.same;
-  words = c.sort_rows-6.ensures.same;
-  blanks = IsPermutation-refl _;
-  remakes = IsPermutation-refl _;
-  replies = IsPermutation-refl _;
-  marks = IsPermutation-refl _;
-})
+returns-in_err-sort_rows-6-clause-same c = seen _ _ _ c.tables.view_is (search IsPermutation-refl)
 
 pub returns-clause-sorted : goal.returns-clause-sorted
 returns-clause-sorted c = record {
