@@ -67,17 +67,17 @@ mark_is = record { parsed = _; is = refl; statement = refl; timeless = refl; fre
 
 pub all_dropped : (v : Version) (old new : Database) → Each DropsTable (drops_of v) old new → DropsAll v old new
 all_dropped One old new drops sound just =
-    let idle : AllByRecursion (λ t. acts t ≡ false) (schema_of One).tables = (refl, (refl, (refl, (refl, (refl, (refl, (refl, (refl, (refl, (refl, (refl, tt))))))))))) in
+    let idle : AllByRecursion (λ t. acts t ≡ false) (schema_of One).tables = assumption in
     each_dropped (drops_of One) (all_of old (schema_of One) sound just idle)
     ((version_is, refl), ((unmixed_grouping_is, refl), ((reply_is, refl), ((remake_is, refl), ((blank_is, refl), ((word_is, refl), ((session_is, refl), ((record_is, refl), ((batch_is, refl), ((lot_is, refl), ((product_is, refl), tt)))))))))))
     old new drops (all_stand old (schema_of One) sound just idle refl)
 all_dropped Two old new drops sound just =
-    let idle : AllByRecursion (λ t. acts t ≡ false) (schema_of Two).tables = (refl, (refl, (refl, (refl, (refl, (refl, (refl, (refl, (refl, (refl, (refl, (refl, tt)))))))))))) in
+    let idle : AllByRecursion (λ t. acts t ≡ false) (schema_of Two).tables = assumption in
     each_dropped (drops_of Two) (all_of old (schema_of Two) sound just idle)
     ((version_is, refl), ((mark_is, refl), ((unmixed_grouping_is, refl), ((reply_is, refl), ((remake_is, refl), ((blank_is, refl), ((word_is, refl), ((session_is, refl), ((record_is, refl), ((batch_is, refl), ((lot_is, refl), ((product_is, refl), tt))))))))))))
     old new drops (all_stand old (schema_of Two) sound just idle refl)
 all_dropped Three old new drops sound just =
-    let idle : AllByRecursion (λ t. acts t ≡ false) (schema_of Three).tables = (refl, (refl, (refl, (refl, (refl, (refl, (refl, (refl, (refl, (refl, (refl, (refl, tt)))))))))))) in
+    let idle : AllByRecursion (λ t. acts t ≡ false) (schema_of Three).tables = assumption in
     each_dropped (drops_of Three) (all_of old (schema_of Three) sound just idle)
     ((mark_is, refl), ((reply_is, refl), ((remake_is, refl), ((blank_is, refl), ((word_is, refl), ((session_is, refl), ((grouping_is, refl), ((record_is, refl), ((batch_is, refl), ((lot_is, refl), ((product_is, refl), ((version_is, refl), tt))))))))))))
     old new drops (all_stand old (schema_of Three) sound just idle refl)

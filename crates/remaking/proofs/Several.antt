@@ -124,39 +124,14 @@ all_in rows t =
     ) refl
 
 all_onto_same : (rows t : Tables) → HaveSameRows (with_all (without_bytes rows) t) (all_onto rows t)
-all_onto_same rows t = record {
-  products = onto_same rows.products t.products;
-  lots = onto_same rows.lots t.lots;
-  batches = onto_same (map bare rows.batches) t.batches;
-  records = onto_same rows.records t.records;
-  groupings = onto_same rows.groupings t.groupings;
-  sessions = onto_same rows.sessions t.sessions;
-  words = onto_same rows.words t.words;
-  blanks = onto_same rows.blanks t.blanks;
-  remakes = onto_same rows.remakes t.remakes;
-  replies = onto_same rows.replies t.replies;
-  marks = onto_same rows.marks t.marks;
-}
+all_onto_same rows t = search onto_same
 
 pub all_same : (rows t : Tables) → HaveSameRows (with_all (without_bytes rows) t) (all_each rows t)
 all_same rows t = subst (HaveSameRows (with_all (without_bytes rows) t)) (sym (all_in rows t)) (all_onto_same rows t)
 
 -- If the tables were empty, the rows are all rows.
 with_none : (rows : Tables) → with_all rows no_rows ≡ rows
-with_none rows =
-    rw (
-      append-nil rows.products,
-      append-nil rows.lots,
-      append-nil rows.batches,
-      append-nil rows.records,
-      append-nil rows.groupings,
-      append-nil rows.sessions,
-      append-nil rows.words,
-      append-nil rows.blanks,
-      append-nil rows.remakes,
-      append-nil rows.replies,
-      append-nil rows.marks,
-    ) refl
+with_none rows = simp append-nil refl
 
 pub made_alone : {X : Type 0} (rows : Tables) (a b : State) (r : Result X Error) → WroteMany (Moves (with_all rows)) a b r → OnOk r (IsImage no_rows a.now → IsImage rows b.now)
 made_alone rows a b (Ok x) it = λ image. subst (λ t. IsImage t b.now) (with_none rows) (it.well.made no_rows image)

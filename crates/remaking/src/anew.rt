@@ -93,6 +93,5 @@ pub(crate) fn make_anew<S: Alter>(
     ensures no_trace { LeavesNoTraceWithCause S.Store tx.old.conn tx.new.conn result }
 {
     drop_all(tx, version)?;
-    make_all(tx)?;
-    Ok(())
+    make_all(tx)
 }

@@ -10,7 +10,7 @@ ghost use Rattle.sql_rows.specs.Many.{WritesMany};
 ghost use Rattle.remaking.specs.Rows.{with_all, without_bytes};
 
 use crate::bytes::set_bytes;
-use crate::putting::put_all;
+use crate::putting::PutRows;
 use sqlite::{Alter, Error, Transaction};
 use table_rows::Tables;
 
@@ -40,15 +40,11 @@ fn fill_bare<S: Alter>(tx: &mut Transaction<'_, S>, tables: &Tables) -> Result<(
         (state S.Store tx.new.conn.now) result }
     ensures no_trace { LeavesNoTraceWithCause S.Store tx.old.conn tx.new.conn result }
 {
-    put_all(tx, tables.products.as_slice())?;
-    put_all(tx, tables.lots.as_slice())?;
-    put_all(tx, tables.batches.as_slice())?;
-    put_all(tx, tables.records.as_slice())?;
-    put_all(tx, tables.groupings.as_slice())?;
-    put_all(tx, tables.sessions.as_slice())?;
-    put_all(tx, tables.words.as_slice())?;
-    put_all(tx, tables.blanks.as_slice())?;
-    put_all(tx, tables.remakes.as_slice())?;
-    put_all(tx, tables.replies.as_slice())?;
-    put_all(tx, tables.marks.as_slice())
+    let names = (tables.products.as_slice(), tables.lots.as_slice());
+    let records = (tables.records.as_slice(), tables.groupings.as_slice());
+    let files = (tables.batches.as_slice(), records);
+    let sessions = (tables.sessions.as_slice(), tables.words.as_slice());
+    let blanks = (tables.blanks.as_slice(), tables.remakes.as_slice());
+    let kept = (tables.replies.as_slice(), tables.marks.as_slice());
+    ((names, files), ((sessions, blanks), kept)).put_rows(tx)
 }

@@ -1,5 +1,5 @@
-//! Inserts a row or a list of rows, in an open transaction. A crash before its commit leaves no
-//! trace of them.
+//! Inserts a row, or the rows of one or more tables, in an open transaction. A crash before its
+//! commit leaves no trace of them.
 ghost use Rattle.std.specs.Prelude.{◌<◌, ◌^◌, ⊤, IsTrue};
 ghost use Rattle.sqlite.specs.Held.{state};
 ghost use Rattle.sql_base.specs.Unchanged.{LeavesNoTraceWithCause};
@@ -61,4 +61,33 @@ pub(crate) fn put_all<T: Put, S: Alter>(
     ensures no_trace { LeavesNoTraceWithCause S.Store tx.old.conn tx.new.conn result }
 {
     run_each::<Putting, T, S>(tx, rows)
+}
+
+/// Rows that can be inserted into their tables.
+pub(crate) trait PutRows {
+    ghost with_rows: { Self → Tables → Tables };
+
+    /// Inserts the rows, one after the other, up to the first error.
+    fn put_rows<S: Alter>(&self, tx: &mut Transaction<'_, S>) -> Result<(), Error>
+        ensures wrote { WritesMany (with_rows self.now) (state S.Store tx.old.conn.now)
+            (state S.Store tx.new.conn.now) result }
+        ensures no_trace { LeavesNoTraceWithCause S.Store tx.old.conn tx.new.conn result };
+}
+
+impl<'a, T: Put> PutRows for &'a [T] {
+    ghost with_rows = { λ rows. with_each T.with_row rows.now };
+
+    fn put_rows<S: Alter>(&self, tx: &mut Transaction<'_, S>) -> Result<(), Error> {
+        put_all(tx, self)
+    }
+}
+
+// The rows of the first part are inserted before those of the second, which can refer to them.
+impl<T: PutRows, U: PutRows> PutRows for (T, U) {
+    ghost with_rows = { λ both t. U.with_rows both.1 (T.with_rows both.0 t) };
+
+    fn put_rows<S: Alter>(&self, tx: &mut Transaction<'_, S>) -> Result<(), Error> {
+        self.0.put_rows(tx)?;
+        self.1.put_rows(tx)
+    }
 }

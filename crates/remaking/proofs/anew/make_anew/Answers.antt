@@ -1,6 +1,6 @@
-use Rattle.std.proofs.Common.{Ok, arith}
+use Rattle.std.proofs.Common.{arith}
 use Rattle.sqlite.specs.Held.{state}
-use Rattle.sql_base.proofs.Lasting.{trace_past, trace_then, trace_well}
+use Rattle.sql_base.proofs.Lasting.{trace_past, trace_then}
 use Rattle.sql_base.proofs.Ending.{failed_wrote, wrote_then}
 use Rattle.sql_tables.specs.Opening.{MakesAll}
 use Rattle.remaking.specs.Anew.{DropsAll, MakesAnew}
@@ -11,17 +11,7 @@ returns-clause-made g c clean =
     let a = state g.S.Store c.args.tx.now.conn.now in
     let b = state g.S.Store c.drop_all.new.tx.conn.now in
     let one = c.in_ok-drop_all.ensures.made (omega (arith, c.make_all.ensures.no_trace.survives.clean)) in
-    let two = c.in_ok-make_all.ensures.made clean in
-    wrote_then (DropsAll c.args.version) MakesAll (MakesAnew c.args.version) a b _ (Ok tt) (λ drops makes sound just. makes (drops sound just)) one.well one.kept
-    (record { well = two.well; kept = two.kept })
-
-pub returns-in_err-make_all-clause-made : goal.returns-in_err-make_all-clause-made
-returns-in_err-make_all-clause-made g c clean =
-    let a = state g.S.Store c.args.tx.now.conn.now in
-    let b = state g.S.Store c.drop_all.new.tx.conn.now in
-    let one = c.in_ok-drop_all.ensures.made (omega (arith, c.make_all.ensures.no_trace.survives.clean)) in
-    wrote_then (DropsAll c.args.version) MakesAll (MakesAnew c.args.version) a b _ c.from_residual-in_err-make_all.result (λ drops makes sound just. makes (drops sound just)) one.well one.kept
-    (failed_wrote MakesAll b _ _ c.from_residual-in_err-make_all.ensures.0 (c.in_err-make_all.ensures.made clean).kept)
+    wrote_then (DropsAll c.args.version) MakesAll (MakesAnew c.args.version) a b _ c.make_all.result (λ drops makes sound just. makes (drops sound just)) one.well one.kept (c.make_all.ensures.made clean)
 
 pub returns-in_err-drop_all-clause-made : goal.returns-in_err-drop_all-clause-made
 returns-in_err-drop_all-clause-made g c clean = failed_wrote (MakesAnew c.args.version) _ _ c.from_residual.result c.from_residual.ensures.0 (c.in_err-drop_all.ensures.made clean).kept
@@ -30,10 +20,5 @@ pub returns-in_err-drop_all-clause-no_trace : goal.returns-in_err-drop_all-claus
 returns-in_err-drop_all-clause-no_trace g c =
     trace_past c.drop_all.ensures.no_trace c.from_residual.result c.in_err-drop_all.field-0.0 c.from_residual.ensures.1 c.in_err-drop_all.ensures.no_trace.cause
 
-pub returns-in_err-make_all-clause-no_trace : goal.returns-in_err-make_all-clause-no_trace
-returns-in_err-make_all-clause-no_trace g c =
-    let r = c.from_residual-in_err-make_all in
-    trace_then c.drop_all.ensures.no_trace (trace_past c.make_all.ensures.no_trace r.result c.in_err-make_all.field-0.0 r.ensures.1 c.in_err-make_all.ensures.no_trace.cause)
-
 pub returns-clause-no_trace : goal.returns-clause-no_trace
-returns-clause-no_trace g c = trace_well (trace_then c.drop_all.ensures.no_trace c.make_all.ensures.no_trace) _
+returns-clause-no_trace g c = trace_then c.drop_all.ensures.no_trace c.make_all.ensures.no_trace
