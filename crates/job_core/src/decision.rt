@@ -14,6 +14,8 @@ ghost use Rattle.job_facts.specs.Store.{LeavesContents, Reads};
 ghost use Rattle.job_facts.specs.declared.change.Change.TheVariants.{Nothing};
 ghost use Rattle.job_facts.specs.declared.reply.Reply.TheVariants.{Refused};
 
+use self::products::BatchFile;
+use self::sessions::StatusWord;
 use job_facts::{Change, JobStore, Refusal, Reply, Request, StoreFault};
 use std::alloc::Global;
 use store_data::Name;
@@ -46,10 +48,18 @@ pub fn decide<'a, S: JobStore>(
             batch,
             product,
             raw,
-        } => products::import(alloc, store, client, batch, product, raw.as_slice()),
+        } => {
+            let file = BatchFile {
+                batch: *batch,
+                product: *product,
+                raw: raw.as_slice(),
+            };
+            products::import(alloc, store, client, &file)
+        }
         Request::Open { batch, blank } => sessions::open(alloc, store, client, batch, *blank),
         Request::Answer { session, index, sw } => {
-            sessions::answer(alloc, store, client, *session, *index, *sw)
+            let (session, index, sw) = (*session, *index, *sw);
+            sessions::answer(alloc, store, client, StatusWord { session, index, sw })
         }
         Request::Abort { session } => sessions::abort(store, client, *session),
         Request::Reset => sessions::reset(store, client),

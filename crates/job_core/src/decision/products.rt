@@ -108,28 +108,37 @@ pub(crate) fn lot<S: JobStore>(
     let product = store.product(&lot.product)?;
     let overlaps = store.overlaps(lot.first, lot.count)?;
     let lots = store.lot_count()?;
-    Ok(lot_by(client, lot, kept, product, overlaps, lots))
+    let facts = LotFacts {
+        kept,
+        product,
+        overlaps,
+        lots,
+    };
+    Ok(lot_by(client, lot, facts))
 }
 
-// Decides from `kept`, the stored lot with the same name, its product, whether one of its serials
-// is already in a lot, and `lots`, the number of lots.
-#[tactic(auto, unfolding(job_facts::specs::Steps::step))]
-fn lot_by(
-    client: &Name,
-    lot: &Lot,
+// The facts that decide a `lot` request: the stored lot with the same name, the product, whether a
+// lot already has one of the serials, and the number of lots.
+#[derive(Clone, Copy)]
+struct LotFacts {
     kept: Option<Lot>,
     product: Option<Product>,
     overlaps: bool,
     lots: u64,
-) -> Decision<'static>
+}
+
+// Decides from `facts`.
+#[tactic(auto, unfolding(job_facts::specs::Steps::step))]
+fn lot_by(client: &Name, lot: &Lot, facts: LotFacts) -> Decision<'static>
     requires { IsLotRange lot.now }
-    ensures { (f : Facts) → IsSound f → kept ≡ lot_named f.lots lot.now.name
-        → product ≡ product_named f.products lot.now.product
-        → overlaps ≡ any_overlaps f.lots lot.now.first lot.now.count → lots ≡ length f.lots
+    ensures { (f : Facts) → IsSound f → facts.kept ≡ lot_named f.lots lot.now.name
+        → facts.product ≡ product_named f.products lot.now.product
+        → facts.overlaps ≡ any_overlaps f.lots lot.now.first lot.now.count
+        → facts.lots ≡ length f.lots
         → Decides f client.now (request.Lot lot.now) result.0 result.1 }
 {
-    match kept {
-        None => new_lot(lot, product, overlaps, lots),
+    match facts.kept {
+        None => new_lot(lot, facts.product, facts.overlaps, facts.lots),
         Some(kept) if kept == *lot => {
             let (lot, made) = (lot.name, Made::Known);
             (Reply::Lot { lot, made }, Change::Nothing)
@@ -159,31 +168,38 @@ fn new_lot(lot: &Lot, product: Option<Product>, overlaps: bool, lots: u64) -> De
     }
 }
 
-/// Decides an import of the batch file `raw`.
+/// A batch file to import: its bytes, and the names of its batch and its product.
+#[derive(Clone, Copy)]
+pub(crate) struct BatchFile<'a> {
+    pub(crate) batch: Name,
+    pub(crate) product: Name,
+    pub(crate) raw: &'a [u8],
+}
+
+/// Decides the import of `file`.
 #[tactic(auto, unfolding(job_facts::specs::Steps::step))]
 pub(crate) fn import<'a, S: JobStore>(
     alloc: Global,
     store: &mut S,
     client: &Name,
-    batch: &Name,
-    product: &Name,
-    raw: &'a [u8],
+    file: &BatchFile<'a>,
 ) -> Result<Decision<'a>, StoreFault>
     ensures value { Reads (S.state store.old) (S.state store.new) result
-        (λ c answer. Decides c.facts client.now (request.Import batch.now product.now raw.now)
+        (λ c answer. Decides c.facts client.now
+        (request.Import file.now.batch file.now.product file.now.raw.now)
         answer.0 answer.1) }
     ensures leaves { LeavesContents (S.state store.old) (S.state store.new) result }
 {
-    match store.batch(batch)? {
+    match store.batch(&file.batch)? {
         None => {
-            let under = store.product(product)?;
+            let under = store.product(&file.product)?;
             let batches = store.batch_count()?;
-            new_batch(alloc, batch, product, raw, under, batches)
+            new_batch(alloc, file, under, batches)
         }
         Some(kept) => {
-            let same = store.batch_has(batch, raw)?;
-            let size = store.batch_size(batch)?;
-            Ok(import_known(client, batch, product, raw, kept, same, size))
+            let same = store.batch_has(&file.batch, file.raw)?;
+            let size = store.batch_size(&file.batch)?;
+            Ok(import_known(client, file, kept, same, size))
         }
     }
 }
@@ -193,21 +209,21 @@ pub(crate) fn import<'a, S: JobStore>(
 #[tactic(auto, unfolding(job_facts::specs::Steps::step))]
 fn import_known(
     client: &Name,
-    batch: &Name,
-    product: &Name,
-    raw: &[u8],
+    file: &BatchFile<'_>,
     kept: BatchRow,
     same: bool,
     size: Option<BatchSize>,
 ) -> Decision<'static>
-    ensures { (f : Facts) → IsSound f → batch_row_of f batch.now ≡ Some kept
-        → same ≡ batch_has f batch.now raw.now → size ≡ batch_size_of f batch.now
-        → Decides f client.now (request.Import batch.now product.now raw.now) result.0 result.1 }
+    ensures { (f : Facts) → IsSound f → batch_row_of f file.now.batch ≡ Some kept
+        → same ≡ batch_has f file.now.batch file.now.raw.now
+        → size ≡ batch_size_of f file.now.batch
+        → Decides f client.now
+        (request.Import file.now.batch file.now.product file.now.raw.now) result.0 result.1 }
 {
     match size {
-        Some(size) if kept.product == *product && same => {
+        Some(size) if kept.product == file.product && same => {
             let reply = Reply::Import {
-                batch: *batch,
+                batch: file.batch,
                 records: size.records,
                 made: Made::Known,
                 rows: size.rows,
@@ -221,24 +237,23 @@ fn import_known(
 // Decides on a batch with a new name. `under` is its product, and `batches` the number of batches.
 fn new_batch<'a>(
     alloc: Global,
-    batch: &Name,
-    product: &Name,
-    raw: &'a [u8],
+    file: &BatchFile<'a>,
     under: Option<Product>,
     batches: u64,
 ) -> Result<Decision<'a>, StoreFault>
     requires { IfSome under IsProduct }
-    ensures value { (f : Facts) → IsSound f → batch_named f.batches batch.now ≡ None
-        → under ≡ product_named f.products product.now
+    ensures value { (f : Facts) → IsSound f → batch_named f.batches file.now.batch ≡ None
+        → under ≡ product_named f.products file.now.product
         → batches ≡ length f.batches
-        → IfOk result (λ answer. Makes f (new_batch f batch.now product.now raw.now)
+        → IfOk result (λ answer.
+        Makes f (new_batch f file.now.batch file.now.product file.now.raw.now)
         answer.0 answer.1) }
     ensures cause { IfErr result (λ fault. fault ≡ Memory) }
 {
     match under {
         None => Ok(refused(Refusal::ProductUnknown)),
         Some(_) if batches >= MOST_BATCHES => Ok(refused(Refusal::Limit)),
-        Some(under) => taken_in(alloc, batch, raw, under, batches + 1),
+        Some(under) => taken_in(alloc, &file.batch, file.raw, under, batches + 1),
     }
 }
 

@@ -116,30 +116,64 @@ pub(crate) fn open<S: JobStore>(
     let charged = store.is_charged(blank)?;
     let waiting = store.first_waiting(batch)?;
     let sessions = store.session_count()?;
-    match to_open(client, batch, blank, row, busy, lot, charged, waiting) {
+    let facts = OpenFacts {
+        row,
+        busy,
+        lot,
+        charged,
+        waiting,
+    };
+    match to_open(client, batch, blank, facts) {
         Err(reply) => Ok((reply, Change::Nothing)),
-        Ok(opens) => opening(alloc, store, client, batch, blank, opens, sessions + 1),
+        Ok((rec, lot)) => {
+            let opens = SessionToOpen {
+                number: sessions + 1,
+                batch: *batch,
+                rec,
+                blank,
+                lot,
+            };
+            opening(alloc, store, client, &opens)
+        }
     }
 }
 
-// Returns the record of the new session and the lot of its blank, or the reply if no session can be
-// opened. Decides from the row of the batch, the running session of the client (`busy`), the lot of
-// the blank and whether it is charged, and the first waiting record.
-fn to_open(
-    client: &Name,
-    batch: &Name,
-    blank: u64,
+// The facts that decide an `open` request: the row of the batch, the running session of the client,
+// the lot of the blank, whether the blank is charged, and the first waiting record.
+#[derive(Clone, Copy)]
+struct OpenFacts {
     row: Option<BatchRow>,
     busy: Option<u64>,
     lot: Option<Lot>,
     charged: bool,
     waiting: Option<Name>,
-) -> Result<(Name, Name), Reply>
-    ensures { (f : Facts) → row ≡ batch_row_of f batch.now → busy ≡ running_session f client.now
-        → lot ≡ lot_of f.lots blank
-        → charged ≡ is_charged f blank → waiting ≡ first_waiting f batch.now
+}
+
+// A session to open: its number, its record, and its blank with the lot of the blank.
+#[derive(Clone, Copy)]
+struct SessionToOpen {
+    number: u64,
+    batch: Name,
+    rec: Name,
+    blank: u64,
+    lot: Name,
+}
+
+// Returns the record of the new session and the lot of its blank, or the reply if no session can be
+// opened.
+fn to_open(client: &Name, batch: &Name, blank: u64, facts: OpenFacts) -> Result<(Name, Name), Reply>
+    ensures { (f : Facts) → facts.row ≡ batch_row_of f batch.now
+        → facts.busy ≡ running_session f client.now → facts.lot ≡ lot_of f.lots blank
+        → facts.charged ≡ is_charged f blank → facts.waiting ≡ first_waiting f batch.now
         → OpensOrReplies f client.now batch.now blank result }
 {
+    let OpenFacts {
+        row,
+        busy,
+        lot,
+        charged,
+        waiting,
+    } = facts;
     let product = match in_batch(row) {
         Err(refusal) => return Err(Reply::Refused { refusal }),
         Ok(row) => row.product,
@@ -159,64 +193,60 @@ fn to_open(
     Err(Reply::Refused { refusal })
 }
 
-// Opens a session for the record in `opens`, and reads its first command.
+// Opens the session `opens`, and reads its first command.
 fn opening<S: JobStore>(
     alloc: Global,
     store: &mut S,
     client: &Name,
-    batch: &Name,
-    blank: u64,
-    opens: (Name, Name),
-    session: u64,
+    opens: &SessionToOpen,
 ) -> Result<Decision<'static>, StoreFault>
     ensures value { Reads (S.state store.old) (S.state store.new) result
-        (λ c answer. MayOpen c.facts client.now batch.now blank opens.0 opens.1
-        → session ≡ length c.facts.sessions + 1
-        → Makes c.facts (opened c.facts client.now batch.now blank opens.0) answer.0 answer.1) }
+        (λ c answer.
+        MayOpen c.facts client.now opens.now.batch opens.now.blank opens.now.rec opens.now.lot
+        → opens.now.number ≡ length c.facts.sessions + 1
+        → Makes c.facts
+        (opened c.facts client.now opens.now.batch opens.now.blank opens.now.rec)
+        answer.0 answer.1) }
     ensures leaves { LeavesContents (S.state store.old) (S.state store.new) result }
 {
-    let (rec, lot) = opens;
-    let command = command(alloc, store, batch, &rec, &Cursor::start())?;
-    Ok(opened(alloc, client, batch, blank, rec, lot, session, command))
+    let command = command(alloc, store, &opens.batch, &opens.rec, &Cursor::start())?;
+    Ok(opened(alloc, client, opens, command))
 }
 
 // Returns the reply with the first command, and the change that opens the session.
 fn opened(
     alloc: Global,
     client: &Name,
-    batch: &Name,
-    blank: u64,
-    rec: Name,
-    lot: Name,
-    session: u64,
+    opens: &SessionToOpen,
     command: Option<Bytes>,
 ) -> Decision<'static>
     ensures { (f : Facts) (plan : Plan) → IsSound f
-        → MayOpen f client.now batch.now blank rec lot
-        → session ≡ length f.sessions + 1
-        → plan_for f batch.now rec ≡ Some plan → command ≡ slice_get (sequence plan) 0
-        → Makes f (opened f client.now batch.now blank rec) result.0 result.1 }
+        → MayOpen f client.now opens.now.batch opens.now.blank opens.now.rec opens.now.lot
+        → opens.now.number ≡ length f.sessions + 1
+        → plan_for f opens.now.batch opens.now.rec ≡ Some plan
+        → command ≡ slice_get (sequence plan) 0
+        → Makes f (opened f client.now opens.now.batch opens.now.blank opens.now.rec)
+        result.0 result.1 }
 {
     laws::is_a_name(client);
-    let (batch, machine) = (*batch, *client);
     let command = bytes_or_none(alloc, command);
     let reply = Reply::Opened {
-        batch,
-        blank,
+        batch: opens.batch,
+        blank: opens.blank,
         command,
-        rec,
-        session,
+        rec: opens.rec,
+        session: opens.number,
     };
     let session = NewSession {
-        number: session,
-        machine,
-        blank,
-        lot,
+        number: opens.number,
+        machine: *client,
+        blank: opens.blank,
+        lot: opens.lot,
     };
     let change = Change::Opens {
         session,
-        batch,
-        rec,
+        batch: opens.batch,
+        rec: opens.rec,
     };
     (reply, change)
 }
@@ -230,51 +260,56 @@ fn bytes_or_none(alloc: Global, command: Option<Bytes>) -> Bytes
     }
 }
 
+/// A status word: the answer of the card in `session` to the command with index `index`.
+#[derive(Clone, Copy)]
+pub(crate) struct StatusWord {
+    pub(crate) session: u64,
+    pub(crate) index: u32,
+    pub(crate) sw: u16,
+}
+
 #[tactic(auto, unfolding(job_facts::specs::Steps::step))]
 /// Decides an `answer` request.
 pub(crate) fn answer<S: JobStore>(
     alloc: Global,
     store: &mut S,
     client: &Name,
-    session: u64,
-    index: u32,
-    sw: u16,
+    word: StatusWord,
 ) -> Result<Decision<'static>, StoreFault>
     ensures value { Reads (S.state store.old) (S.state store.new) result
-        (λ c answer. Decides c.facts client.now (request.Answer session index sw)
+        (λ c answer. Decides c.facts client.now (request.Answer word.session word.index word.sw)
         answer.0 answer.1) }
     ensures leaves { LeavesContents (S.state store.old) (S.state store.new) result }
 {
-    let row = match running(client, session, store.session(session)?) {
+    let row = match running(client, word.session, store.session(word.session)?) {
         Err(refusal) => return Ok(refused(refusal)),
         Ok(row) => row,
     };
-    if row.words != u64::from(index) {
+    if row.words != u64::from(word.index) {
         return Ok(refused(Refusal::OutOfTurn));
     }
-    taking_word(alloc, store, session, &row, index, sw)
+    taking_word(alloc, store, &row, word)
 }
 
 // Adds to a running session the status word for the command sent last.
 fn taking_word<S: JobStore>(
     alloc: Global,
     store: &mut S,
-    session: u64,
     row: &SessionRow,
-    index: u32,
-    sw: u16,
+    word: StatusWord,
 ) -> Result<Decision<'static>, StoreFault>
     requires { IsCursor row.now.cursor }
     ensures value { Reads (S.state store.old) (S.state store.new) result
-        (λ c answer. (x : Session) (plan : Plan) → Runs c.facts session x plan
-        → row.now ≡ session_row c.facts x → index ≡ length x.words
-        → Makes c.facts (take_word c.facts session index sw x) answer.0 answer.1) }
+        (λ c answer. (x : Session) (plan : Plan) → Runs c.facts word.session x plan
+        → row.now ≡ session_row c.facts x → word.index ≡ length x.words
+        → Makes c.facts (take_word c.facts word.session word.index word.sw x)
+        answer.0 answer.1) }
     ensures leaves { LeavesContents (S.state store.old) (S.state store.new) result }
 {
     let segment = store.segment(&row.batch, &row.rec, row.cursor.app, row.cursor.segment)?;
-    let next = after_word(&row.cursor, &segment, sw);
+    let next = after_word(&row.cursor, &segment, word.sw);
     let command = next_command(alloc, store, row, &segment, &next)?;
-    Ok(took_word(session, row, index, sw, next, command))
+    Ok(took_word(row, word, next, command))
 }
 
 // Returns the command at the cursor `next`, or `None` if the session ends. The segment of the
@@ -332,18 +367,17 @@ fn after_word(cursor: &Cursor, segment: &Option<SegmentRow>, sw: u16) -> Option<
 
 // Adds a status word. The session is then spoiled, continues with its next command, or is good.
 fn took_word(
-    session: u64,
     row: &SessionRow,
-    index: u32,
-    sw: u16,
+    word: StatusWord,
     next: Option<Cursor>,
     command: Option<Bytes>,
 ) -> Decision<'static>
-    ensures { (f : Facts) (x : Session) (plan : Plan) → IsSound f → Runs f session x plan
-        → row.now ≡ session_row f x → index ≡ length x.words
-        → Went plan index sw next → Hands plan index next command
-        → Makes f (take_word f session index sw x) result.0 result.1 }
+    ensures { (f : Facts) (x : Session) (plan : Plan) → IsSound f → Runs f word.session x plan
+        → row.now ≡ session_row f x → word.index ≡ length x.words
+        → Went plan word.index word.sw next → Hands plan word.index next command
+        → Makes f (take_word f word.session word.index word.sw x) result.0 result.1 }
 {
+    let StatusWord { session, index, sw } = word;
     let word = NewWord {
         session,
         index,

@@ -24,12 +24,12 @@ code_is (q ∷ products) n p found = elim (cases_Bool (bytes_eq q.code n)) [
 pub returns-in-Some-2-clause-value : goal.returns-in-Some-2-clause-value
 returns-in-Some-2-clause-value c = λ f sound new under batches.
     let p = c.in-Some.field-0 in
-    let n = c.args.product.now in
+    let n = c.args.file.now.product in
     let there : product_named f.products n ≡ Some p = sym under ∙ c.in-Some.is in
     let code = code_is f.products n p there in
     let own : product_named f.products p.code ≡ Some p = subst (λ m. product_named f.products m ≡ Some p) (sym code) there in
     let few : length f.batches < 4096 = omega (arith, batches, c.if-batches-ge-MOST_BATCHES.false) in
-    let outcome : new_batch f c.args.batch.now n c.args.raw.now ≡ taken_in f c.args.batch.now p.code c.args.raw.now (batch_of p c.args.raw.now) =
-    (rw (there, lt-leb 4096 (length f.batches) few) refl) ∙ ap (λ m. taken_in f c.args.batch.now m c.args.raw.now (batch_of p c.args.raw.now)) (sym code) in
+    let outcome : new_batch f c.args.file.now.batch n c.args.file.now.raw.now ≡ taken_in f c.args.file.now.batch p.code c.args.file.now.raw.now (batch_of p c.args.file.now.raw.now) =
+    (rw (there, lt-leb 4096 (length f.batches) few) refl) ∙ ap (λ m. taken_in f c.args.file.now.batch m c.args.file.now.raw.now (batch_of p c.args.file.now.raw.now)) (sym code) in
     IfOk-weaker c.taken_in.result _ _ (λ answer made. subst (λ (o : Outcome). Makes f o answer.0 answer.1) (sym outcome) made)
     (c.taken_in.ensures.value f sound new own few (ap (λ k. k + 1) batches))

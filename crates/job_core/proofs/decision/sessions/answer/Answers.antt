@@ -17,9 +17,9 @@ pub returns-then-row-from-clause-value : goal.returns-then-row-from-clause-value
 unfolding step
 returns-then-row-from-clause-value g c = λ honest c' held.
     let f = c'.facts in
-    let s = c.args.session in
-    let k = c.args.index in
-    let sw = c.args.sw in
+    let s = c.args.word.session in
+    let k = c.args.word.index in
+    let sw = c.args.word.sw in
     let is = c.in-Ok.ensures.is f (c.in_ok-session.ensures.value honest c' held) in
     let words = ap (λ (r : SessionRow). r.words) is.3 in
     let differ : eqb k (length is.0.words) ≡ false = ne_eqb k (length is.0.words) (λ e. c.if-row-from.true (words ∙ sym e ∙ sym c.from.ensures)) in
@@ -34,9 +34,9 @@ pub returns-clause-value : goal.returns-clause-value
 unfolding step
 returns-clause-value g c = λ honest c' held.
     let f = c'.facts in
-    let s = c.args.session in
-    let k = c.args.index in
-    let sw = c.args.sw in
+    let s = c.args.word.session in
+    let k = c.args.word.index in
+    let sw = c.args.word.sw in
     let early : IsHonest (g.S.JobStore.state c.session.new.self) = omega (arith, c.taking_word.ensures.leaves.stays.doubts) in
     let still = c.session.ensures.leaves.stays.contents early c' held in
     let is = c.in-Ok.ensures.is f (c.in_ok-session.ensures.value early c' held) in

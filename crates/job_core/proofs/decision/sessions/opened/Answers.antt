@@ -8,9 +8,9 @@ use Rattle.job_core.proofs.decision.sessions.opened.Goals as goal
 
 pub returns : goal.returns
 returns c = λ f plan sound may session there command.
-    let b = c.args.batch.now in
-    let r = c.args.rec in
-    let blank = c.args.blank in
+    let b = c.args.opens.now.batch in
+    let r = c.args.opens.now.rec in
+    let blank = c.args.opens.now.blank in
     let machine = c.args.client.now in
     let bytes : command_at f b r 0 ≡ c.bytes_or_none-command.result = command_under f b r plan 0 c.args.command there command ∙ sym c.bytes_or_none-command.ensures in
     record {

@@ -12,7 +12,7 @@ pub returns-clause-value : goal.returns-clause-value
 returns-clause-value g c = λ honest c' held x plan runs row index.
     let f = c'.facts in
     let own = c.args.row.now in
-    let sw = c.args.sw in
+    let sw = c.args.word.sw in
     let early : IsHonest (g.S.JobStore.state c.segment.new.self) = omega (arith, c.next_command.ensures.leaves.stays.doubts) in
     let still = c.segment.ensures.leaves.stays.contents early c' held in
     let sound = (g.met.S.JobStore.sound c.args.store.now c' held).facts in
