@@ -16,7 +16,7 @@ ghost use Rattle.audit_cards.specs.Sessions.{AreByRecord, IsAuditedFile, IsAudit
 use crate::by_record::{SessionRef, sessions_at};
 use crate::counts::counts_by;
 use crate::files::{are_groupings, are_records, names_of};
-use crate::records::is_audited_record;
+use crate::records::{AuditedBatch, is_audited_record};
 use audit_order::{is_name, product_named, range_of};
 use batch_import::{ImportFault, read_batch};
 use std::alloc::{AllocError, Global};
@@ -115,47 +115,48 @@ fn are_placed(sessions: &[SessionRef<'_>], records: usize) -> bool
 // has one list of rows for each record.
 fn are_audited(
     alloc: Global,
-    tables: &Tables,
-    batch: &StoredBatch,
-    product: &Product,
+    audited: &AuditedBatch<'_>,
     groups: &[Vec<Row>],
     records: &[StoredRecord],
     sessions: &[SessionRef<'_>],
 ) -> Result<bool, AllocError>
-    requires ready { AreReady tables.now }
-    requires file { HasFile tables.now batch.now product.now
+    requires ready { AreReady audited.now.tables.now }
+    requires file { HasFile audited.now.tables.now audited.now.batch.now audited.now.product.now
         (map (λ group. group.items) groups.now) records.now sessions.now }
-    ensures { IfOk result (λ sound. IsTrue sound ↔ All (IsAuditedWith tables.now) records.now) }
+    ensures { IfOk result
+        (λ sound. IsTrue sound ↔ All (IsAuditedWith audited.now.tables.now) records.now) }
 {
     for place in 0..records.len() {
         let own = sessions_at(sessions, place as u64);
         let (rows, stored) = (&groups[place], &records[place]);
-        if !is_audited_record(alloc, tables, batch, product, rows, stored, own)? {
+        if !is_audited_record(alloc, audited, rows, stored, own)? {
             return Ok(false);
         }
     }
     Ok(true)
 }
 
-// Returns `true` if a batch obeys the audit rules, together with its records, groupings and
+// Returns `true` if the batch obeys the audit rules, together with its records, groupings and
 // sessions. `rows` are the rows of its file.
 fn has_file(
     alloc: Global,
-    tables: &Tables,
+    audited: &AuditedBatch<'_>,
     by_record: &[SessionRef<'_>],
-    batch: &StoredBatch,
-    product: &Product,
     rows: Vec<Row>,
 ) -> Result<bool, AllocError>
-    requires ready { AreReady tables.now }
-    requires sessions { AreByRecord tables.now.sessions by_record.now }
-    requires named { is_name batch.now.name ≡ true }
-    requires batch { find (is_batch batch.now.id) tables.now.batches ≡ Some batch.now }
-    requires product { product_named tables.now.products batch.now.product ≡ Some product.now }
-    requires ranged { IsProduct product.now }
-    requires file { IsFileOf product.now batch.now.raw rows.items }
-    ensures { IfOk result (λ sound. IsTrue sound ↔ IsAuditedFile tables.now batch.now) }
+    requires ready { AreReady audited.now.tables.now }
+    requires sessions { AreByRecord audited.now.tables.now.sessions by_record.now }
+    requires named { is_name audited.now.batch.now.name ≡ true }
+    requires batch { find (is_batch audited.now.batch.now.id) audited.now.tables.now.batches
+        ≡ Some audited.now.batch.now }
+    requires product { product_named audited.now.tables.now.products audited.now.batch.now.product
+        ≡ Some audited.now.product.now }
+    requires ranged { IsProduct audited.now.product.now }
+    requires file { IsFileOf audited.now.product.now audited.now.batch.now.raw rows.items }
+    ensures { IfOk result
+        (λ sound. IsTrue sound ↔ IsAuditedFile audited.now.tables.now audited.now.batch.now) }
 {
+    let (tables, batch) = (audited.tables, audited.batch);
     let names = names_of(alloc, &rows)?;
     let records = records_of(tables, batch);
     if !has_records(batch, records, &names) {
@@ -173,7 +174,7 @@ fn has_file(
         return Ok(false);
     }
     let groups = grouped(alloc, rows)?;
-    are_audited(alloc, tables, batch, product, &groups, records, sessions)
+    are_audited(alloc, audited, &groups, records, sessions)
 }
 
 // Returns `true` if the file of `batch` has no fault under `product`, and `has_file` returns `true`
@@ -196,7 +197,14 @@ fn is_audited_under(
     let read = file_rows(alloc, product, batch)?;
     match read {
         None => Ok(false),
-        Some(rows) => has_file(alloc, tables, by_record, batch, product, rows),
+        Some(rows) => {
+            let audited = AuditedBatch {
+                tables,
+                batch,
+                product,
+            };
+            has_file(alloc, &audited, by_record, rows)
+        }
     }
 }
 

@@ -146,25 +146,34 @@ fn are_audited(
     true
 }
 
-/// Returns `true` if the record `stored` and its sessions `own` obey the audit rules. `rows` are
-/// its rows in the batch file. The plan is made only if the record has sessions.
+/// A batch to audit: the tables that contain it, its row, and its product.
+#[derive(Clone, Copy)]
+pub(crate) struct AuditedBatch<'a> {
+    pub(crate) tables: &'a Tables,
+    pub(crate) batch: &'a StoredBatch,
+    pub(crate) product: &'a Product,
+}
+
+/// Returns `true` if the record `stored` of the batch `audited` and its sessions `own` obey the
+/// audit rules. `rows` are its rows in the batch file. The plan is made only if the record has
+/// sessions.
 ///
 /// # Errors
 ///
 /// Returns `AllocError` if an allocation fails.
 pub(crate) fn is_audited_record(
     alloc: Global,
-    tables: &Tables,
-    batch: &StoredBatch,
-    product: &Product,
+    audited: &AuditedBatch<'_>,
     rows: &[Row],
     stored: &StoredRecord,
     own: &[SessionRef<'_>],
 ) -> Result<bool, AllocError>
-    requires ready { AreReady tables.now }
-    requires rows { HasRows tables.now batch.now product.now rows.now stored.now own.now }
+    requires ready { AreReady audited.now.tables.now }
+    requires rows { HasRows audited.now.tables.now audited.now.batch.now audited.now.product.now
+        rows.now stored.now own.now }
     ensures { IfOk result (λ sound. IsTrue sound
-        ↔ (IsAuditedRecord tables.now stored.now × All (IsAuditedSession tables.now) own.now)) }
+        ↔ (IsAuditedRecord audited.now.tables.now stored.now
+        × All (IsAuditedSession audited.now.tables.now) own.now)) }
 {
     if !stands_by(stored, own) {
         return Ok(false);
@@ -172,6 +181,6 @@ pub(crate) fn is_audited_record(
     if own.is_empty() {
         return Ok(true);
     }
-    let plan = plan_of_sound(alloc, rows, product)?;
-    Ok(are_audited(tables, batch, &plan, own))
+    let plan = plan_of_sound(alloc, rows, audited.product)?;
+    Ok(are_audited(audited.tables, audited.batch, &plan, own))
 }
