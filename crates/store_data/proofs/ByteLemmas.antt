@@ -12,7 +12,8 @@ use Rattle.store_data.specs.declared.row.Enc.TheVariants.{Plain}
 use Rattle.store_data.specs.declared.row.Product.{Product}
 use Rattle.store_data.specs.declared.row.Row.{Row}
 use Rattle.store_data.specs.Groups.{grouped}
-use Rattle.store_data.specs.Sequence.{Application, Command, IsApplication, IsPlan, Piece, Segment, aid_of, application_commands, application_of, applications_of, commands_of, enc_bits, piece_count, piece_of, pieces_of, plan_of, rows_of_rank, segment_of, segments_of, select_command, store_data_command, store_data_commands}
+use Rattle.store_data.specs.Sequence.{Application, Command, IsApplication, IsPlan, Piece, Segment, aid_of, application_commands, application_of, applications_of}
+use Rattle.store_data.specs.Sequence.{commands_of, enc_bits, piece_count, piece_of, pieces_of, plan_of, rows_of_rank, segment_of, segments_of, select_command, store_data_command, store_data_commands}
 use Rattle.store_data.specs.Ranks.{ranks}
 use Rattle.store_data.proofs.IsPlanLemmas.{All-grouped}
 use Rattle.store_data.proofs.RankLemmas.{All-flat_map}

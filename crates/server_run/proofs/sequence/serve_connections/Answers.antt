@@ -37,7 +37,9 @@ loop-count-preserved g c =
       now.ensures.level ∙ so_far.1,
       es ++ e ∷ [],
       os ++ o ∷ [],
-      observes-push g.S.JobStore.state c.left_in_turn.ensures c.args.store.now was.store c.serve_observed-incoming.new.store read.new.store (queue c.args.connections.now) (queue was.connections) (queue c.next.new.self) (queue ended.new.connections) level (contents c.args.events.now.writer) mid after _ _ _ es os e o so_far.4 c.next.ensures.same c.in-Ok.ensures.opens one.1 one.2 one.3 read.ensures.stays (product-alike (g.S.JobStore.state c.serve_observed-incoming.new.store) (g.S.JobStore.state read.new.store) c.serve_observed-incoming.result.2 o read.ensures.alike read.ensures.product)
+      observes-push g.S.JobStore.state c.left_in_turn.ensures c.args.store.now was.store c.serve_observed-incoming.new.store read.new.store (queue c.args.connections.now) (queue was.connections) (queue c.next.new.self) (queue ended.new.connections)
+          level (contents c.args.events.now.writer) mid after _ _ _ es os e o so_far.4 c.next.ensures.same c.in-Ok.ensures.opens one.1 one.2 one.3 read.ensures.stays
+          (product-alike (g.S.JobStore.state c.serve_observed-incoming.new.store) (g.S.JobStore.state read.new.store) c.serve_observed-incoming.result.2 o read.ensures.alike read.ensures.product)
           (observes-alike _ _ e c.serve_observed-incoming.result.2 o read.ensures.alike one.4) (ap (λ (p : Observation). p.before) read.ensures.alike ∙ run.before) read.ensures.after ended.ensures.queue own,
       length_push es e ∙ ap (λ (n : ℕ). n + 1) so_far.5,
       fails-next was.is_failing now.result os o so_far.6 (subst (λ (p : Observation). now.result ≡ fails_after was.is_failing p) ended.ensures.kept now.ensures.fails),

@@ -15,5 +15,7 @@ invariant_of-self-2 g c =
       first = λ less. absurd (omega (arith, less, c.requires.full));
       kept = first_of (search rules, grind (arith, common_steps));
       room = first_of (search rules, grind (arith, common_steps));
-      told = body_told (front ++ rest) more (front ++ new) old.progress c.progress_of-self.result c.args.total (length c.as_slice-front.result.now + length c.as_slice-rest.result.now) c.requires.body (ap (λ l. front ++ l) c.read_into-read.ensures.bytes.1 ∙ sym (append_assoc front rest more)) (omega (arith, length-append front new, ap length c.as_slice-front.ensures.value, ap length c.as_slice-rest.ensures.value)) c.progress_of-self.ensures old.told;
+      told = body_told (front ++ rest) more (front ++ new) old.progress c.progress_of-self.result c.args.total
+          (length c.as_slice-front.result.now + length c.as_slice-rest.result.now) c.requires.body (ap (λ l. front ++ l) c.read_into-read.ensures.bytes.1 ∙ sym (append_assoc front rest more))
+          (omega (arith, length-append front new, ap length c.as_slice-front.ensures.value, ap length c.as_slice-rest.ensures.value)) c.progress_of-self.ensures old.told;
     }
