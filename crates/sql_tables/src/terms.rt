@@ -1,5 +1,5 @@
 //! Compares terms, such as those of checks, by their meaning.
-ghost use Rattle.std.specs.Prelude.{◌≡◌, ◌↔◌, ◌<◌, IsTrue, MatchOption};
+ghost use Rattle.std.specs.Prelude.{◌≡◌, ◌↔◌, ◌<◌, IsTrue, MatchOption, length};
 ghost use Rattle.sqlite_sql.specs.Term.{lit};
 ghost use Rattle.sqlite_schema.specs.Code.{op_term, term_to};
 ghost use Rattle.sqlite_value.specs.declared.value.Value.TheVariants.{Null};
@@ -22,17 +22,36 @@ fn same_binary(a: BinaryOp, b: BinaryOp) -> bool
     a == b
 }
 
-// Returns the node at position `at`, and the depth up to which its operands are read. At depth 0 or
-// after the last node there is no node, and the term is NULL.
-fn node<'a>(ops: &'a [Op], depth: usize, at: usize) -> Option<(&'a Op, usize)>
-    ensures { MatchOption result (term_to ops.now depth at ≡ lit Null)
-        (λ it. (it.1 < depth)
-        × (term_to ops.now depth at ≡ op_term (term_to ops.now it.1) it.0.now)) }
+// The nodes of a term, and the depth up to which their operands are read.
+#[derive(Clone, Copy)]
+struct Nodes<'a> {
+    ops: &'a [Op],
+    depth: usize,
+}
+
+fn all(ops: &[Op]) -> Nodes<'_>
+    ensures ops { result.ops.now ≡ ops.now }
+    ensures depth { result.depth ≡ length ops.now }
 {
-    if depth == 0 || at >= ops.len() {
+    let depth = ops.len();
+    Nodes { ops, depth }
+}
+
+// Returns the node at position `at`, and the nodes for its operands. At depth 0 or after the last
+// node there is no node, and the term is NULL.
+fn node<'a>(nodes: &Nodes<'a>, at: usize) -> Option<(&'a Op, Nodes<'a>)>
+    ensures { MatchOption result (term_to nodes.now.ops.now nodes.now.depth at ≡ lit Null)
+        (λ it. (it.1.depth < nodes.now.depth) × (term_to nodes.now.ops.now nodes.now.depth at
+        ≡ op_term (term_to it.1.ops.now it.1.depth) it.0.now)) }
+{
+    if nodes.depth == 0 || at >= nodes.ops.len() {
         None
     } else {
-        Some((&ops[at], depth - 1))
+        let below = Nodes {
+            ops: nodes.ops,
+            depth: nodes.depth - 1,
+        };
+        Some((&nodes.ops[at], below))
     }
 }
 
@@ -46,36 +65,31 @@ fn is_null(op: &Op) -> bool
 }
 
 #[cycle(terms)]
-fn same_at(a: &[Op], depth: usize, at: usize, b: &[Op], other_depth: usize, other: usize) -> bool
-    ensures { IsTrue result ↔ (term_to a.now depth at ≡ term_to b.now other_depth other) }
+fn same_at(a: &Nodes<'_>, at: usize, b: &Nodes<'_>, other: usize) -> bool
+    ensures { IsTrue result
+        ↔ (term_to a.now.ops.now a.now.depth at ≡ term_to b.now.ops.now b.now.depth other) }
 {
-    match (node(a, depth, at), node(b, other_depth, other)) {
+    match (node(a, at), node(b, other)) {
         (None, None) => true,
         (None, Some((op, _))) | (Some((op, _)), None) => is_null(op),
-        (Some((op, below)), Some((by, other_below))) => same_op(a, below, op, b, other_below, by),
+        (Some((op, below)), Some((by, other_below))) => same_op(&below, op, &other_below, by),
     }
 }
 
 #[cycle(terms)]
-fn same_op(a: &[Op], depth: usize, op: &Op, b: &[Op], other_depth: usize, by: &Op) -> bool
-    ensures { IsTrue result
-        ↔ (op_term (term_to a.now depth) op.now ≡ op_term (term_to b.now other_depth) by.now) }
+fn same_op(a: &Nodes<'_>, op: &Op, b: &Nodes<'_>, by: &Op) -> bool
+    ensures { IsTrue result ↔ (op_term (term_to a.now.ops.now a.now.depth) op.now
+        ≡ op_term (term_to b.now.ops.now b.now.depth) by.now) }
 {
     match (op, by) {
         (Op::Literal(v), Op::Literal(w)) => is_same(lend_value(v), lend_value(w)),
         (Op::Column(s, p), Op::Column(t, q)) => *s == *t && *p == *q,
-        (Op::Unary(op, x), Op::Unary(by, u)) => {
-            same_unary(*op, *by) && same_at(a, depth, *x, b, other_depth, *u)
-        }
+        (Op::Unary(op, x), Op::Unary(by, u)) => same_unary(*op, *by) && same_at(a, *x, b, *u),
         (Op::Binary(op, x, y), Op::Binary(by, u, v)) => {
-            same_binary(*op, *by)
-                && same_at(a, depth, *x, b, other_depth, *u)
-                && same_at(a, depth, *y, b, other_depth, *v)
+            same_binary(*op, *by) && same_at(a, *x, b, *u) && same_at(a, *y, b, *v)
         }
         (Op::Case(t, x, y), Op::Case(s, u, v)) => {
-            same_at(a, depth, *t, b, other_depth, *s)
-                && same_at(a, depth, *x, b, other_depth, *u)
-                && same_at(a, depth, *y, b, other_depth, *v)
+            same_at(a, *t, b, *s) && same_at(a, *x, b, *u) && same_at(a, *y, b, *v)
         }
         _ => false,
     }
@@ -91,7 +105,7 @@ impl Same for Terms {
             let [y, others @ ..] = second else {
                 return false;
             };
-            if !same_at(a, a.len(), *x, b, b.len(), *y) {
+            if !same_at(&all(a), *x, &all(b), *y) {
                 return false;
             }
             first = more;
