@@ -13,7 +13,7 @@ use Rattle.http_requests.specs.Routes.{Route, Job, Import, Batch, Report, Blanks
 -- the route that a `Route` of the code represents
 abbrev pub shown : Target → Route
 shown (target.Job client number) = Job client.now number.now
-shown (target.Import client number batch product) = Import client.now number.now batch.now product.now
+shown (target.Import path) = Import path.client.now path.number.now path.batch.now path.product.now
 shown (target.Batch batch) = Batch batch.now
 shown (target.Report batch) = Report batch.now
 shown (target.Blanks product) = Blanks product.now

@@ -13,7 +13,7 @@ ghost use Rattle.http_messages.specs.declared.fixed.FixedReply.TheVariants.{Malf
 ghost use Rattle.http_messages.specs.declared.flaw.Flaw.TheVariants.{PathName};
 
 use crate::flaw::call_of;
-use crate::route::{Route, Routes};
+use crate::route::{ImportPath, Route, Routes};
 use http_messages::{FixedReply, Flaw, Message, Method};
 use job_facts::{Arrival, Call, Request};
 use std::alloc::{AllocError, Global};
@@ -146,12 +146,7 @@ fn ask_in(alloc: Global, route: Route<'_>, body: Bytes) -> Result<Asked, AskFaul
 {
     match route {
         Route::Job { client, number } => job(alloc, client, number, body),
-        Route::Import {
-            client,
-            number,
-            batch,
-            product,
-        } => import(alloc, client, number, batch, product, body),
+        Route::Import(path) => import(alloc, &path, body),
         Route::Batch(batch) => Ok(Asked::Account(Wanted::Batch(name_in(batch)?))),
         Route::Report(batch) => Ok(Asked::Account(Wanted::Report(name_in(batch)?))),
         Route::Blanks(product) => Ok(Asked::Account(Wanted::Blanks(name_in(product)?))),
@@ -180,23 +175,16 @@ fn job(alloc: Global, client: &[u8], number: &[u8], body: Bytes) -> Result<Asked
 }
 
 // Returns the import of a batch file, with its client and request number.
-fn import(
-    alloc: Global,
-    client: &[u8],
-    number: &[u8],
-    batch: &[u8],
-    product: &[u8],
-    body: Bytes,
-) -> Result<Asked, AskFault>
-    ensures asked { IsAsked
-        (or_malformed (flaw_in (Import client.now number.now batch.now product.now) body)
-        (ask_in (Import client.now number.now batch.now product.now) body)) result }
+fn import(alloc: Global, path: &ImportPath<'_>, body: Bytes) -> Result<Asked, AskFault>
+    ensures asked { let route =
+        Import path.now.client.now path.now.number.now path.now.batch.now path.now.product.now in
+        IsAsked (or_malformed (flaw_in route body) (ask_in route body)) result }
     ensures ranged { IfOk result IsInRange }
 {
-    let client = name_in(client)?;
-    let number = number_in(number).ok_or(FixedReply::Malformed(Flaw::PathNumber))?;
-    let batch = name_in(batch)?;
-    let product = name_in(product)?;
+    let client = name_in(path.client)?;
+    let number = number_in(path.number).ok_or(FixedReply::Malformed(Flaw::PathNumber))?;
+    let batch = name_in(path.batch)?;
+    let product = name_in(path.product)?;
     let ask = import_ask(alloc, &batch, &product, body.as_slice())?;
     let request = Request::Import {
         batch,

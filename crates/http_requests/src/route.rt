@@ -14,23 +14,25 @@ use std::str::from_utf8;
 #[derive(Clone, Copy)]
 pub(crate) enum Route<'a> {
     /// A request in JSON, with its client and request number.
-    Job {
-        client: &'a [u8],
-        number: &'a [u8],
-    },
-    /// A batch file for a product, with its client and request number.
-    Import {
-        client: &'a [u8],
-        number: &'a [u8],
-        batch: &'a [u8],
-        product: &'a [u8],
-    },
+    Job { client: &'a [u8], number: &'a [u8] },
+    /// The import of a batch file.
+    Import(ImportPath<'a>),
     /// The account of a batch.
     Batch(&'a [u8]),
     /// The report of a batch.
     Report(&'a [u8]),
     /// The account of a product's blanks.
     Blanks(&'a [u8]),
+}
+
+/// The parts of the path of an import: its client and request number, and the names of the batch
+/// and its product.
+#[derive(Clone, Copy)]
+pub(crate) struct ImportPath<'a> {
+    pub(crate) client: &'a [u8],
+    pub(crate) number: &'a [u8],
+    pub(crate) batch: &'a [u8],
+    pub(crate) product: &'a [u8],
 }
 
 // The forms of paths that the server serves.
@@ -49,7 +51,7 @@ impl Route<'_> {
         ensures { result ≡ method_of (shown self.now) }
     {
         match self {
-            Route::Job { .. } | Route::Import { .. } => Method::Post,
+            Route::Job { .. } | Route::Import(_) => Method::Post,
             Route::Batch(_) | Route::Report(_) | Route::Blanks(_) => Method::Get,
         }
     }
@@ -127,12 +129,12 @@ fn route_by<'a>(form: Form, params: &Params<'_, 'a>) -> Option<Route<'a>>
             client: part(params, "client")?,
             number: part(params, "number")?,
         }),
-        Form::Import => Some(Route::Import {
+        Form::Import => Some(Route::Import(ImportPath {
             client: part(params, "client")?,
             number: part(params, "number")?,
             batch: part(params, "batch")?,
             product: part(params, "product")?,
-        }),
+        })),
         Form::Batch => Some(Route::Batch(part(params, "batch")?)),
         Form::Report => Some(Route::Report(part(params, "batch")?)),
         Form::Blanks => Some(Route::Blanks(part(params, "product")?)),
