@@ -5,7 +5,7 @@ use crate::peers::SERVED;
 use http_messages::ByteSource;
 use loopback::Loopback;
 use server::Connections;
-use std::alloc::Global;
+use std::alloc::AllocGlobal;
 use std::io::Write;
 use std::process::Abort;
 use std::test::Fail;
@@ -41,15 +41,14 @@ fn serve<'a, 'c>(port: &mut Loopback<'a, Hall<'c>>, reply: &str, turns: u64) -> 
 // Serves the first peer, whose message has `size` bytes, with the response `start`. Then serves the
 // second peer, which connects after 4 s. Checks that `read` bytes were read from the first peer
 // after its message.
-fn check_drained(
-    rt: &impl Abort,
-    alloc: Global,
+fn check_drained<R: AllocGlobal + Abort>(
+    rt: &R,
     peers: &'static [Peer],
     size: usize,
     start: &str,
     read: usize,
 ) -> Result<(), Fail> {
-    let crowd = Crowd::new(alloc, peers);
+    let crowd = Crowd::new(rt.alloc(), peers);
     let hall = Hall(&crowd);
     let mut port = Loopback::listen(&hall, 1)?;
     serve(&mut port, start, 1)?;
@@ -69,15 +68,14 @@ fn check_drained(
 
 // Serves `turns` peers, the last turns of the server. Checks when they end, and the number of bytes
 // that were read from the first peer.
-fn check_end(
-    rt: &impl Abort,
-    alloc: Global,
+fn check_end<R: AllocGlobal + Abort>(
+    rt: &R,
     peers: &'static [Peer],
     turns: u32,
     millis: u64,
     read: usize,
 ) -> Result<(), Fail> {
-    let crowd = Crowd::new(alloc, peers);
+    let crowd = Crowd::new(rt.alloc(), peers);
     let hall = Hall(&crowd);
     let mut port = Loopback::listen(&hall, 1)?;
     port.end_after(turns);
@@ -130,7 +128,7 @@ fn what_follows_an_early_reply_is_dropped(rt: HostRuntime) -> Result<(), Fail> {
         ),
     ];
     for (peers, size, start, read) in ALL {
-        check_drained(&rt, rt.alloc(), *peers, *size, *start, *read)?;
+        check_drained(&rt, *peers, *size, *start, *read)?;
     }
     Ok(())
 }
@@ -163,7 +161,7 @@ fn nothing_is_read_after_a_complete_message(rt: HostRuntime) -> Result<(), Fail>
         ),
     ];
     for (peers, size, start) in ALL {
-        check_drained(&rt, rt.alloc(), *peers, *size, *start, 0)?;
+        check_drained(&rt, *peers, *size, *start, 0)?;
     }
     Ok(())
 }
@@ -194,7 +192,7 @@ fn a_drain_ends_in_time(rt: HostRuntime) -> Result<(), Fail> {
         (before_another!(ENDS, 15_000), CHUNKED.len() + 10),
     ];
     for (peers, read) in ALL {
-        check_end(&rt, rt.alloc(), *peers, 2, 15_000, *read)?;
+        check_end(&rt, *peers, 2, 15_000, *read)?;
     }
     Ok(())
 }
@@ -219,7 +217,7 @@ fn the_last_drains_get_a_second(rt: HostRuntime) -> Result<(), Fail> {
         (before_another!(STAYS, 60_000), CHUNKED.len() + 10, 1000),
     ];
     for (peers, read, millis) in ALL {
-        check_end(&rt, rt.alloc(), *peers, 1, *millis, *read)?;
+        check_end(&rt, *peers, 1, *millis, *read)?;
     }
     Ok(())
 }
