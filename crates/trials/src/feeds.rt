@@ -129,38 +129,45 @@ fn run(alloc: Global, machine: Name, case: &Case, level: Level, room: usize) -> 
     }
 }
 
-// Checks the result, the output and the event lines of a feed. If an allocation fails, the feed
-// stops or leaves out a line. A second run must then be complete.
-fn check_at(
-    rt: &impl Abort,
-    machine: Name,
-    alloc: Global,
-    case: &Case,
+// The event lines of a feed: their level, the number of bytes that their writer accepts, and the
+// bytes that it must have at the end.
+#[derive(Clone, Copy)]
+struct Log<'a> {
     level: Level,
     room: usize,
-    events: &[u8],
-) {
-    let mut feed = run(alloc, machine, case, level, room);
+    bytes: &'a [u8],
+}
+
+// Checks the result, the output and the event lines of a feed. If an allocation fails, the feed
+// stops or leaves out a line. A second run must then be complete.
+fn check_at(rt: &impl Abort, alloc: Global, machine: Name, case: &Case, log: &Log<'_>) {
+    let level = log.level;
+    let mut feed = run(alloc, machine, case, level, log.room);
     if feed.end != Err(FeedStop::Memory) {
         assert_eq!(rt; feed.end, case.end, "at {level:?}");
         assert_eq!(rt; feed.printed.taken(), case.printed, "at {level:?}");
     }
-    if feed.end != case.end || feed.events.taken() != events {
-        feed = run(alloc, machine, case, level, room);
+    if feed.end != case.end || feed.events.taken() != log.bytes {
+        feed = run(alloc, machine, case, level, log.room);
     }
     assert_eq!(rt; feed.end, case.end, "at {level:?}");
     assert_eq!(rt; feed.printed.taken(), case.printed, "at {level:?}");
-    assert_eq!(rt; feed.events.taken(), events, "at {level:?}");
+    assert_eq!(rt; feed.events.taken(), log.bytes, "at {level:?}");
 }
 
 // Checks a case at each level. At level `Off` no line is written.
 fn check(rt: &impl Abort, alloc: Global, machine: Name, case: &Case) {
-    for (level, events) in [
+    for (level, bytes) in [
         (Level::Usual, case.events),
         (Level::All, case.events),
         (Level::Off, b"".as_slice()),
     ] {
-        check_at(rt, machine, alloc, case, level, ROOM, events);
+        let log = Log {
+            level,
+            room: ROOM,
+            bytes,
+        };
+        check_at(rt, alloc, machine, case, &log);
     }
 }
 
@@ -214,15 +221,12 @@ fn failed_event_lines_do_not_end_a_feed(rt: HostRuntime) -> Result<(), Fail> {
         events: b"again number=10000001 tries=1 reply=\"HTTP/1.1 503 Service Unavailable\"\nrejected serial=1000 number=10000003 code=72 name=number-reused\nboot-used number=10000003\nrejected serial=1001 number=10000004 code=60 name=blank-used\n",
     };
     for (room, _) in case.events.iter().enumerate() {
-        check_at(
-            &rt,
-            machine,
-            alloc,
-            &case,
-            Level::Usual,
+        let log = Log {
+            level: Level::Usual,
             room,
-            &case.events[..room],
-        );
+            bytes: &case.events[..room],
+        };
+        check_at(&rt, alloc, machine, &case, &log);
     }
     check(&rt, alloc, machine, &case);
     Ok(())

@@ -7,7 +7,7 @@ use job_facts::{ServerStore, StoreFault};
 use list_store::ListStore;
 use server::{Connections, MemoryConnections, NextFault, Served};
 use server_run::{Opened, ServeStop, refusal_in, serve_and_report};
-use std::alloc::{AllocError, Global};
+use std::alloc::{AllocError, AllocGlobal, Global};
 use std::io::{self, ErrorKind, Write};
 use std::process::Abort;
 use std::test::Fail;
@@ -116,6 +116,24 @@ enum Run<'a> {
     },
 }
 
+// A server: its database file, the bytes of its connections, the number of connections that it
+// serves, and the level of its event lines.
+#[derive(Clone, Copy)]
+struct Serving<'a> {
+    opened: Opened<'a>,
+    texts: &'a [&'a [u8]],
+    turns: u32,
+    level: Level,
+}
+
+// The server of `Run::Stocked`.
+const STOCKED: Serving<'static> = Serving {
+    opened: FOUND,
+    texts: NO_TEXTS,
+    turns: 0,
+    level: Level::Usual,
+};
+
 // Runs a server. The inner result is its end, unless an allocation fails.
 fn serve(alloc: Global, run: Run<'_>) -> Result<Result<Ended, AllocError>, Fail> {
     Ok(match run {
@@ -123,8 +141,16 @@ fn serve(alloc: Global, run: Run<'_>) -> Result<Result<Ended, AllocError>, Fail>
             texts,
             turns,
             level,
-        } => served_over(alloc, ListStore::new(alloc), NEW, texts, turns, level),
-        Run::Stocked => served_over(alloc, stocked(alloc)?, FOUND, NO_TEXTS, 0, Level::Usual),
+        } => {
+            let serving = Serving {
+                opened: NEW,
+                texts,
+                turns,
+                level,
+            };
+            served_over(alloc, ListStore::new(alloc), &serving)
+        }
+        Run::Stocked => served_over(alloc, stocked(alloc)?, &STOCKED),
         Run::Planned {
             fault,
             at,
@@ -139,17 +165,16 @@ fn serve(alloc: Global, run: Run<'_>) -> Result<Result<Ended, AllocError>, Fail>
 
 // Runs a server and checks its result. If the result isn't the expected one, an allocation may have
 // failed, so the server runs once more.
-fn check(
-    rt: &impl Abort,
-    alloc: Global,
+fn check<R: AllocGlobal + Abort>(
+    rt: &R,
     run: Run<'_>,
     outcome: Result<(), ServeStop>,
     lines: &[u8],
     events: &[u8],
 ) -> Result<(), Fail> {
-    let ended = match serve(alloc, run)? {
+    let ended = match serve(rt.alloc(), run)? {
         Ok(ended) if ended.is(outcome, lines, events) => ended,
-        _ => serve(alloc, run)??,
+        _ => serve(rt.alloc(), run)??,
     };
     assert_eq!(rt; ended.outcome, outcome);
     assert_eq!(rt; ended.lines.as_slice(), lines);
@@ -157,27 +182,24 @@ fn check(
     Ok(())
 }
 
-// Serves `turns` of these connections over `store`.
+// Serves the connections of `serving` over `store`.
 fn served_over<S: ServerStore + Drop>(
     alloc: Global,
     store: S,
-    opened: Opened<'_>,
-    texts: &[&[u8]],
-    turns: u32,
-    level: Level,
+    serving: &Serving<'_>,
 ) -> Result<Ended, AllocError> {
-    let mut connections = MemoryConnections::new(alloc, inputs(alloc, texts)?, 512);
+    let mut connections = MemoryConnections::new(alloc, inputs(alloc, serving.texts)?, 512);
     let mut lines = Vec::new(alloc);
-    let mut events = EventLog::new(level, Vec::new(alloc));
+    let mut events = EventLog::new(serving.level, Vec::new(alloc));
     let outcome = serve_and_report(
         alloc,
         store,
         &mut connections,
         &mut lines,
         &mut events,
-        &opened,
+        &serving.opened,
         8807,
-        turns,
+        serving.turns,
     );
     Ok(Ended {
         outcome,
@@ -195,8 +217,13 @@ fn planned(
     texts: &[&[u8]],
 ) -> Result<Ended, AllocError> {
     let store = FaultyStore::new(alloc, Some(Plan { turns: at, fault }));
-    let turns = texts.len().min(6) as u32;
-    served_over(alloc, store, opened, texts, turns, Level::Usual)
+    let serving = Serving {
+        opened,
+        texts,
+        turns: texts.len().min(6) as u32,
+        level: Level::Usual,
+    };
+    served_over(alloc, store, &serving)
 }
 
 // At level `Usual` an accepted request has no line. At level `Off` there are no lines.
@@ -229,7 +256,7 @@ closed connections=6
             turns: 6,
             level,
         };
-        check(&rt, rt.alloc(), run, Ok(()), lines, events)?;
+        check(&rt, run, Ok(()), lines, events)?;
     }
     Ok(())
 }
@@ -250,7 +277,7 @@ closed connections=3
         turns: 3,
         level: Level::Usual,
     };
-    check(&rt, rt.alloc(), run, Ok(()), lines, events)
+    check(&rt, run, Ok(()), lines, events)
 }
 
 // The bodies of refusals have four forms.
@@ -288,7 +315,7 @@ fn the_contents_of_an_existing_store_are_counted(rt: HostRuntime) -> Result<(), 
     let counted = b"opened db=\"my \\x22shop\\x22.db\" log=taken batches=1 sessions=0 replies=3
 closed connections=0
 ";
-    check(&rt, rt.alloc(), Run::Stocked, Ok(()), lines, counted)?;
+    check(&rt, Run::Stocked, Ok(()), lines, counted)?;
     let unread = b"opened db=\"my \\x22shop\\x22.db\" log=taken batches=0 replies=0
 closed connections=0
 ";
@@ -298,7 +325,7 @@ closed connections=0
         opened: FOUND,
         texts: NO_TEXTS,
     };
-    check(&rt, rt.alloc(), run, Ok(()), lines, unread)
+    check(&rt, run, Ok(()), lines, unread)
 }
 
 // Each 503 has the fault of the store. `recovered` is written before the line of the first
@@ -320,7 +347,7 @@ closed connections=4
         opened: NEW,
         texts: &texts,
     };
-    check(&rt, rt.alloc(), run, Ok(()), lines, events)
+    check(&rt, run, Ok(()), lines, events)
 }
 
 // After a failure of the device the store is shut and can't be closed, so the last line isn't
@@ -342,7 +369,7 @@ unclosed fault=device
         opened: NEW,
         texts: &texts,
     };
-    check(&rt, rt.alloc(), run, stop, LISTENING, events)?;
+    check(&rt, run, stop, LISTENING, events)?;
     let full = Err(ServeStop::Store {
         fault: StoreFault::Full,
     });
@@ -353,7 +380,7 @@ unclosed fault=device
         texts: NO_TEXTS,
     };
     let events = b"made db=\"shop.db\"\nunclosed fault=full\n";
-    check(&rt, rt.alloc(), run, full, LISTENING, events)
+    check(&rt, run, full, LISTENING, events)
 }
 
 #[test]
@@ -369,7 +396,7 @@ closed connections=1
         level: Level::Usual,
     };
     let stop = Err(ServeStop::Next);
-    check(&rt, rt.alloc(), run, stop, LISTENING, events)
+    check(&rt, run, stop, LISTENING, events)
 }
 
 // Connections with these messages. The first `room` bytes of each response are accepted.
@@ -461,7 +488,7 @@ closed connections=2
             texts: &texts,
             room,
         };
-        check(&rt, rt.alloc(), run, Ok(()), lines, events)?;
+        check(&rt, run, Ok(()), lines, events)?;
     }
     Ok(())
 }
@@ -531,7 +558,7 @@ fn a_failed_flush_ends_the_server(rt: HostRuntime) -> Result<(), Fail> {
         (2, Ok(()), ONE_SERVED, A_PRODUCT),
     ] {
         let run = Run::Flushed { flushes };
-        check(&rt, rt.alloc(), run, outcome, lines, events)?;
+        check(&rt, run, outcome, lines, events)?;
     }
     Ok(())
 }
@@ -541,7 +568,7 @@ fn failed_event_lines_do_not_end_the_server(rt: HostRuntime) -> Result<(), Fail>
     for room in [0, 10, 60, 512] {
         let events = A_PRODUCT.get(..room).unwrap_or(A_PRODUCT);
         let run = Run::CutLines { room };
-        check(&rt, rt.alloc(), run, Ok(()), ONE_SERVED, events)?;
+        check(&rt, run, Ok(()), ONE_SERVED, events)?;
     }
     Ok(())
 }
