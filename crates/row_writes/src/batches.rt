@@ -1,6 +1,6 @@
 //! Inserts the row of a batch, in an open transaction. A crash before its commit leaves no trace of
 //! it.
-ghost use Rattle.std.specs.Prelude.{◌≡◌, ◌<◌, ◌^◌};
+ghost use Rattle.std.specs.Prelude.{◌≡◌, ◌<◌, ◌^◌, []};
 ghost use Rattle.sql_rows.specs.Encoding.{enc_code};
 ghost use Rattle.sql_rows.specs.Writes.{Writes};
 ghost use Rattle.table_rows.specs.After.{new_batch};
@@ -22,17 +22,17 @@ pub fn enc_code(enc: Enc) -> u64
     }
 }
 
-/// Adds a batch with `records` records, which are all waiting.
+/// Adds a batch with `records` records, which are all waiting. The batch doesn't have the bytes of
+/// its file yet (see `set_raw`).
 pub fn add_batch<'x, S: Alter>(
     tx: &mut Transaction<'_, S>,
     id: u64,
     name: &'x Name,
     product: &'x Name,
-    raw: &'x [u8],
     records: u32,
 ) -> Result<usize, Error>
     requires { id < 2 ^ 63 }
-    ensures { Writes S.Store (with_batch (new_batch id name.now product.now raw.now records))
+    ensures { Writes S.Store (with_batch (new_batch id name.now product.now [] records))
         tx.old.conn tx.new.conn result }
 {
     tx.execute(
@@ -42,7 +42,7 @@ pub fn add_batch<'x, S: Alter>(
             int(id),
             ValueRef::Text(name.bytes()),
             ValueRef::Text(product.bytes()),
-            ValueRef::Blob(raw),
+            ValueRef::Blob(&[]),
             int(u64::from(records)),
         ],
     )

@@ -11,6 +11,7 @@ use sql_base::int;
 use sqlite::types::ValueRef;
 use sqlite::{Alter, Error, Transaction};
 use store_data::Name;
+use table_rows::RecordPlace;
 
 /// Returns the number that is stored for the record state `stands`.
 pub fn record_code(stands: RecordState) -> u64
@@ -97,31 +98,28 @@ pub fn set_closed<S: Alter>(tx: &mut Transaction<'_, S>, name: &Name) -> Result<
     )
 }
 
-/// Sets the state of the record at position `place` of the batch with id `batch`, and the numbers
-/// of its spoiled sessions and remakes.
+/// Sets the state of the record at `place`, and the numbers of its spoiled sessions and remakes.
 pub fn set_record<S: Alter>(
     tx: &mut Transaction<'_, S>,
-    batch: u64,
-    place: u64,
+    place: &RecordPlace,
     stands: RecordState,
-    spoiled: u64,
-    remakes: u64,
 ) -> Result<usize, Error>
-    requires batch { batch < 2 ^ 63 }
-    requires place { place < 2 ^ 63 }
-    requires spoiled { spoiled < 2 ^ 63 }
-    requires remakes { remakes < 2 ^ 63 }
-    ensures { Writes S.Store (with_record_set batch place stands spoiled remakes)
+    requires batch { place.now.batch < 2 ^ 63 }
+    requires place { place.now.place < 2 ^ 63 }
+    requires spoiled { place.now.spoiled < 2 ^ 63 }
+    requires remakes { place.now.remakes < 2 ^ 63 }
+    ensures { let p = place.now in
+        Writes S.Store (with_record_set p.batch p.place stands p.spoiled p.remakes)
         tx.old.conn tx.new.conn result }
 {
     tx.execute(
         "UPDATE record SET state = ?3, spoiled = ?4, remakes = ?5 WHERE batch = ?1 AND place = ?2",
         &[
-            int(batch),
-            int(place),
+            int(place.batch),
+            int(place.place),
             int(record_code(stands)),
-            int(spoiled),
-            int(remakes),
+            int(place.spoiled),
+            int(place.remakes),
         ],
     )
 }
