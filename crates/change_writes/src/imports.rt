@@ -68,7 +68,7 @@ fn write_bare<S: Alter>(
 {
     let number = batch.number;
     let product = &batch.product;
-    add_batch(tx, number, &batch.name, &product.code, &[], batch.records)?;
+    add_batch(tx, number, &batch.name, &product.code, batch.records)?;
     add_rows(tx, alloc, number, product, batch.raw)
 }
 

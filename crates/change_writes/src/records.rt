@@ -25,14 +25,7 @@ pub(crate) fn write_record<S: Alter>(
         Writes S.Store (record_after p stands p.spoiled p.remakes p.totals)
         tx.old.conn tx.new.conn result }
 {
-    set_record(
-        tx,
-        place.batch,
-        place.place,
-        stands,
-        place.spoiled,
-        place.remakes,
-    )?;
+    set_record(tx, place, stands)?;
     set_totals(tx, place.batch, &place.totals)
 }
 
