@@ -1,4 +1,4 @@
-mod Limits
+pub mod Limits
 pub mod Pieces
 pub mod NumberLemmas
 pub mod WordLemmas
