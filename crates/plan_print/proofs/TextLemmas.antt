@@ -1,5 +1,5 @@
 -- The output of `persod plan`.
-use Rattle.std.proofs.Common.{◌≡◌, ℕ, ◌+◌, ◌<◌, ◌≤◌, ◌/◌, ◌%◌, List, [], ◌∷◌, ◌++◌, length, take, get_or, All, Option, Some, None, unwrap_or, refl, sym, ap, ◌∙◌, arith}
+use Rattle.std.proofs.Common.{◌≡◌, ℕ, ◌+◌, ◌<◌, ◌≤◌, ◌/◌, ◌%◌, List, [], ◌∷◌, ◌++◌, length, take, get_or, All, refl, sym, ap, ◌∙◌, arith}
 use Rattle.std.specs.Prelude.{bytes_eq, slice_index}
 use Rattle.std.proofs.lemmas.List.{append_assoc, take_more}
 use Rattle.std.proofs.lemmas.List.Sums.{length-filter, count_by-le-length}
@@ -10,7 +10,6 @@ use Rattle.store_data.specs.declared.row.Row.{Row}
 use Rattle.store_data.proofs.FaultLemmas.{grouped_each}
 use Rattle.store_data.proofs.IsPlanLemmas.{All-grouped}
 use Rattle.batch_import.specs.Outlines.{AreBatchRows}
-use Rattle.text_io.specs.Inputs.{Agrees}
 
 -- ---- hexadecimal
 
@@ -29,12 +28,6 @@ hex_more start bytes text first second i b high low inside is so_far of_high of_
     ∙ ap (λ h. start ++ (encode_upper (take i bytes) ++ h ∷ low ∷ [])) of_high
     ∙ ap (λ l. start ++ (encode_upper (take i bytes) ++ slice_index upper_digits (b / 16) ∷ l ∷ [])) of_low
     ∙ ap (λ ys. start ++ ys) (sym (encode_with-push upper_digits (take i bytes) b) ∙ ap (encode_with upper_digits) (ap (λ d. take i bytes ++ d ∷ []) is ∙ sym (take_more bytes i 0 inside)))
-
--- ---- input
-
-pub agrees_some : (known : Option (List ℕ)) → Agrees known (unwrap_or known [])
-agrees_some None = tt
-agrees_some (Some all) = refl
 
 -- ---- records
 

@@ -4,4 +4,4 @@
 mod plan;
 mod print;
 
-pub use plan::{PlanStop, plan_engine, plan_with_events};
+pub use plan::{BatchFault, PlanStop, plan_engine, plan_with_events};

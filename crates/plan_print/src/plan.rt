@@ -7,7 +7,7 @@ ghost use Rattle.event_lines.specs.Notes.{NotesAll};
 ghost use Rattle.text_io.specs.Inputs.{Agrees, most_input};
 ghost use Rattle.text_io.specs.Written.{Writes};
 ghost use Rattle.plan_print.specs.PlanEnds.{GroupsBatch, PlanEnds, PlanEndsWithEvents, ReadsInput};
-ghost use Rattle.plan_print.specs.PlanEnds.{stop_lines, within};
+ghost use Rattle.plan_print.specs.PlanEnds.{stop_lines, stop_of, within};
 ghost use Rattle.plan_print.specs.Printed.{planned_of, text_of};
 
 use crate::print::{Planned, write_record};
@@ -17,68 +17,19 @@ use import_causes::note_fault;
 use std::alloc::{AllocError, Global};
 use std::io::{self, Read, Write};
 use store_data::{Product, Row, grouped, plan_of_sound};
-use text_io::{MOST_INPUT, ReadFault, WriteFailed, read_within};
+use text_io::{MOST_INPUT, RunStop, StreamFault, WriteFailed, read_within};
 
-/// A reason why `persod plan` stopped.
+/// A fault of the batch file of `persod plan`.
 #[derive(Clone, Copy, Debug, PartialEq, Eq)]
-pub enum PlanStop {
+pub enum BatchFault {
     /// The first fault of the batch file.
     Refused(RowFault),
     /// The input has more than `MOST_INPUT` bytes.
     TooLarge,
-    /// A read failed.
-    ReadFailed,
-    /// A write failed or accepted no bytes.
-    WriteFailed,
-    /// An allocation failed.
-    Memory,
 }
 
-impl From<ImportFault> for PlanStop {
-    ghost use Rattle.plan_print.specs.PlanEnds.{stop_of};
-
-    ghost from_gives = { λ fault stop. stop ≡ stop_of fault };
-
-    fn from(fault: ImportFault) -> PlanStop {
-        match fault {
-            ImportFault::At(fault) => PlanStop::Refused(fault),
-            ImportFault::Memory => PlanStop::Memory,
-        }
-    }
-}
-
-impl From<AllocError> for PlanStop {
-    ghost use Rattle.plan_print.specs.declared.plan.PlanStop.TheVariants.{Memory};
-
-    ghost from_gives = { λ _ stop. stop ≡ Memory };
-
-    fn from(_error: AllocError) -> PlanStop {
-        PlanStop::Memory
-    }
-}
-
-impl From<ReadFault> for PlanStop {
-    ghost use Rattle.plan_print.specs.PlanEnds.{stop_of_read};
-
-    ghost from_gives = { λ fault stop. stop ≡ stop_of_read fault };
-
-    fn from(fault: ReadFault) -> PlanStop {
-        match fault {
-            ReadFault::Failed => PlanStop::ReadFailed,
-            ReadFault::Memory => PlanStop::Memory,
-        }
-    }
-}
-
-impl From<WriteFailed> for PlanStop {
-    ghost use Rattle.plan_print.specs.declared.plan.PlanStop.TheVariants.{WriteFailed};
-
-    ghost from_gives = { λ _ stop. stop ≡ WriteFailed };
-
-    fn from(_error: WriteFailed) -> PlanStop {
-        PlanStop::WriteFailed
-    }
-}
+/// A reason why `persod plan` stopped.
+pub type PlanStop = RunStop<BatchFault>;
 
 /// Prints the commands of the batch file in `reader`: for each record a line with its name, then a
 /// line with each command in upper-case hexadecimal (EMV CPS 1.1; this project's profile).
@@ -147,11 +98,9 @@ fn note_stop<E: Write + Drop>(
         (E.contents events.new.writer) (stop_lines product.now raw.now stop) }
 {
     match stop {
-        PlanStop::Refused(fault) => note_fault(alloc, raw, product, fault, events),
-        PlanStop::TooLarge => (),
-        PlanStop::ReadFailed => (),
-        PlanStop::WriteFailed => (),
-        PlanStop::Memory => (),
+        RunStop::Own(BatchFault::Refused(fault)) => note_fault(alloc, raw, product, fault, events),
+        RunStop::Own(BatchFault::TooLarge) => (),
+        RunStop::Stream(_) => (),
     }
 }
 
@@ -176,7 +125,7 @@ fn plan_bytes<W: Write>(
 fn within(read: Option<Vec<u8>>) -> Result<Vec<u8>, PlanStop>
     ensures { result ≡ within read }
 {
-    read.ok_or(PlanStop::TooLarge)
+    read.ok_or(RunStop::Own(BatchFault::TooLarge))
 }
 
 // Reads the bytes of a batch file.
@@ -192,8 +141,18 @@ fn records(alloc: Global, product: &Product, raw: &[u8]) -> Result<Vec<Vec<Row>>
     requires { IsProduct product.now }
     ensures { GroupsBatch product.now raw.now result }
 {
-    let batch = read_batch(alloc, raw, product)?;
+    let batch = read_batch(alloc, raw, product).map_err(stop_of)?;
     Ok(grouped(alloc, batch.rows)?)
+}
+
+// Returns the reason to stop for a fault of the import.
+fn stop_of(fault: ImportFault) -> PlanStop
+    ensures { result ≡ stop_of fault }
+{
+    match fault {
+        ImportFault::At(fault) => RunStop::Own(BatchFault::Refused(fault)),
+        ImportFault::Memory => RunStop::Stream(StreamFault::Memory),
+    }
 }
 
 // Plans each record.

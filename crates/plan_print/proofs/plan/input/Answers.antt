@@ -1,14 +1,17 @@
 use Rattle.std.proofs.Common.{◌≡◌, ℕ, List, [], Result, Err, Vec, unwrap_or}
 use Rattle.std.specs.Global.{Global}
 use Rattle.std.proofs.lemmas.Result.{err_from_is_err_and}
+use Rattle.text_io.specs.Stops.{stream_fault_of}
 use Rattle.text_io.specs.declared.reading.ReadFault.{ReadFault}
 use Rattle.text_io.specs.declared.reading.ReadFault.TheVariants.{Failed, Memory}
-use Rattle.plan_print.specs.PlanEnds.{ReadsInput, stop_of_read}
-use Rattle.plan_print.specs.declared.plan.PlanStop.{PlanStop}
-use Rattle.plan_print.proofs.TextLemmas.{agrees_some}
+use Rattle.text_io.specs.declared.stop.RunStop.{RunStop}
+use Rattle.text_io.specs.declared.stop.RunStop.TheVariants.{Stream}
+use Rattle.text_io.proofs.Limits.{agrees_some}
+use Rattle.plan_print.specs.PlanEnds.{ReadsInput}
+use Rattle.plan_print.specs.declared.plan.BatchFault.{BatchFault}
 use Rattle.plan_print.proofs.plan.input.Goals as goal
 
-no_input : (raw : List ℕ) (r : Result (Vec ℕ Global) PlanStop) (stop : PlanStop) (fault : ReadFault) → r ≡ Err stop → stop ≡ stop_of_read fault → ReadsInput raw r
+no_input : (raw : List ℕ) (r : Result (Vec ℕ Global) (RunStop BatchFault)) (stop : RunStop BatchFault) (fault : ReadFault) → r ≡ Err stop → stop ≡ Stream (stream_fault_of fault) → ReadsInput raw r
 no_input raw r stop Failed is of = rw (is, of) tt
 no_input raw r stop Memory is of = rw (is, of) tt
 
