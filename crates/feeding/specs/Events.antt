@@ -13,11 +13,14 @@ use Rattle.arrivals.specs.Values.{value_of}
 use Rattle.http_requests.specs.Members.{number_at, text_at}
 use Rattle.http_requests.specs.Requests.{with_two}
 use Rattle.text_io.specs.Inputs.{Agrees}
+use Rattle.text_io.specs.declared.stop.RunStop.{RunStop}
+use Rattle.text_io.specs.declared.stop.RunStop.TheVariants.{Own, Stream}
+use Rattle.text_io.specs.declared.stop.StreamFault.TheVariants as stream
 use Rattle.feeder.specs.declared.feeder.InsertFault.{InsertFault}
 use Rattle.feeder.specs.declared.feeder.InsertFault.TheVariants.{Exhausted as NoNumbers, NotIdle}
 use Rattle.feeder.specs.Table.{Act, Apply, Done, Eject, Send, Wait, after_card, after_insert, after_reply, asked}
-use Rattle.feeding.specs.declared.engine.FeedStop.{FeedStop}
-use Rattle.feeding.specs.declared.engine.FeedStop.TheVariants as stop
+use Rattle.feeding.specs.declared.engine.FeedFault.{FeedFault}
+use Rattle.feeding.specs.declared.engine.FeedFault.TheVariants as fault
 use Rattle.feeding.specs.declared.feed.Rejection.{Rejection}
 use Rattle.feeding.specs.declared.feed.Rejection.TheVariants.{ByReply, Exhausted}
 use Rattle.feeding.specs.declared.flaw.Flaw.{Flaw}
@@ -166,8 +169,8 @@ abbrev pub bad_lines : ℕ → List (List ℕ) → List (List ℕ)
 bad_lines taken [] = []
 bad_lines taken (l ∷ ls) = flaw_lines (taken + 1) (flaw_of l)
 
-abbrev pub end_texts : Feed → Result (Unit {0}) FeedStop → List (List ℕ)
-end_texts f (Err stop.BadLine) = bad_lines f.taken f.left
+abbrev pub end_texts : Feed → Result (Unit {0}) (RunStop FeedFault) → List (List ℕ)
+end_texts f (Err (Own fault.BadLine)) = bad_lines f.taken f.left
 end_texts f _ = []
 
 -- ---- the bytes that are written
@@ -179,20 +182,20 @@ IsNoted contents old new texts = (new.level ≡ old.level) × NotesAll old.level
 
 -- feed `f` continues with the tries `hs`, and their event lines are written
 abbrev pub GoesWithEvents : {E : Type 0} → (E → Option (List ℕ)) → Feed → List Heard → Option (List Try) → Option (List Try) → Option (List ℕ) → Option (List ℕ) → EventLog E → EventLog E
-    → Result (Unit {0}) FeedStop → Type 0
+    → Result (Unit {0}) (RunStop FeedFault) → Type 0
 GoesWithEvents contents f hs log_before log_after before after old new result =
     Goes f hs log_before log_after before after result × IsNoted contents old new (event_texts f hs ++ end_texts (feed_after f hs) result)
 
 -- `FeedEnds` holds, and the event lines of the same tries are written
 abbrev pub FeedEndsWithEvents : {E : Type 0} → (E → Option (List ℕ)) → (List ℕ → Feed) → Option (List ℕ) → Option (List Try) → Option (List Try) → Option (List ℕ) → Option (List ℕ) → EventLog E → EventLog E
-    → Result (Unit {0}) FeedStop → Type 0
-FeedEndsWithEvents contents first known log_before log_after before after old new (Err stop.ReadFailed) = (log_after ≡ log_before) × Keeps before after × IsNoted contents old new []
+    → Result (Unit {0}) (RunStop FeedFault) → Type 0
+FeedEndsWithEvents contents first known log_before log_after before after old new (Err (Stream stream.ReadFailed)) = (log_after ≡ log_before) × Keeps before after × IsNoted contents old new []
 FeedEndsWithEvents contents first known log_before log_after before after old new result =
     (raw : List ℕ) × Agrees known raw × (hs : List Heard) × GoesWithEvents contents (first raw) hs log_before log_after before after old new result
 
 -- ---- an intermediate result
 
 -- nothing is written if an allocation fails
-abbrev pub IsNotedOf : {E : Type 0} → (E → Option (List ℕ)) → EventLog E → EventLog E → List (List ℕ) → Result (Unit {0}) FeedStop → Type 0
-IsNotedOf contents old new texts (Err stop.Memory) = IsNoted contents old new []
+abbrev pub IsNotedOf : {E : Type 0} → (E → Option (List ℕ)) → EventLog E → EventLog E → List (List ℕ) → Result (Unit {0}) (RunStop FeedFault) → Type 0
+IsNotedOf contents old new texts (Err (Stream stream.Memory)) = IsNoted contents old new []
 IsNotedOf contents old new texts _ = IsNoted contents old new texts

@@ -6,15 +6,16 @@ use Rattle.job_facts.specs.declared.reply.Reply.{Reply}
 use Rattle.job_facts.specs.declared.request.Call.{Call}
 use Rattle.text_io.specs.Inputs.{Agrees}
 use Rattle.text_io.specs.Written.{AppendsBeginning}
-use Rattle.text_io.specs.declared.reading.ReadFault.{ReadFault}
-use Rattle.text_io.specs.declared.reading.ReadFault.TheVariants as read
+use Rattle.text_io.specs.declared.stop.RunStop.{RunStop}
+use Rattle.text_io.specs.declared.stop.RunStop.TheVariants.{Own, Stream}
+use Rattle.text_io.specs.declared.stop.StreamFault.TheVariants as stream
 use Rattle.wire.specs.Sending.{sending_of}
 use Rattle.feeder.specs.declared.feeder.Stand.{Stand}
 use Rattle.feeder.specs.declared.feeder.Stand.TheVariants.{Asks, HasCommand, Idle, Stale}
 use Rattle.feeder.specs.Reading.{IsRead}
 use Rattle.feeder.specs.Table.{asked}
-use Rattle.feeding.specs.declared.engine.FeedStop.{FeedStop}
-use Rattle.feeding.specs.declared.engine.FeedStop.TheVariants as stop
+use Rattle.feeding.specs.declared.engine.FeedFault.{FeedFault}
+use Rattle.feeding.specs.declared.engine.FeedFault.TheVariants as fault
 use Rattle.feeding.specs.Cards.{card_of}
 use Rattle.feeding.specs.Feeds.{Feed, hears}
 
@@ -75,46 +76,43 @@ IsBadLine (l ∷ ls) = card_of l ≡ None
 
 -- the state of the feed when it ends: all cards were processed; or the next line is malformed; or a
 -- later boot released the numbers; or ten tries changed nothing; or a write or an allocation failed
-abbrev pub EndsBy : Feed → Result (Unit {0}) FeedStop → Type 0
+abbrev pub EndsBy : Feed → Result (Unit {0}) (RunStop FeedFault) → Type 0
 EndsBy f (Ok u) = (f.feeder.stand ≡ Idle) × (f.left ≡ [])
-EndsBy f (Err stop.BadLine) = (f.feeder.stand ≡ Idle) × IsBadLine f.left
-EndsBy f (Err stop.Stale) = f.feeder.stand ≡ Stale
-EndsBy f (Err stop.NoReply) = f.tries ≡ 10
-EndsBy f (Err stop.WriteFailed) = ⊤
-EndsBy f (Err stop.ReadFailed) = ⊥
-EndsBy f (Err stop.Memory) = f.tries < 10
+EndsBy f (Err (Own fault.BadLine)) = (f.feeder.stand ≡ Idle) × IsBadLine f.left
+EndsBy f (Err (Own fault.Stale)) = f.feeder.stand ≡ Stale
+EndsBy f (Err (Own fault.NoReply)) = f.tries ≡ 10
+EndsBy f (Err (Stream stream.WriteFailed)) = ⊤
+EndsBy f (Err (Stream stream.ReadFailed)) = ⊥
+EndsBy f (Err (Stream stream.Memory)) = f.tries < 10
 
 -- `text` was written, or only a prefix of it if the writer failed
-abbrev pub Written : Option (List ℕ) → Option (List ℕ) → List ℕ → Result (Unit {0}) FeedStop → Type 0
-Written before after text (Err stop.WriteFailed) = AppendsBeginning before after text
+abbrev pub Written : Option (List ℕ) → Option (List ℕ) → List ℕ → Result (Unit {0}) (RunStop FeedFault) → Type 0
+Written before after text (Err (Stream stream.WriteFailed)) = AppendsBeginning before after text
 Written before after text _ = Appends before after text
 
 -- the tries were exchanged; an allocation may fail during a try
-abbrev pub Exchanged : Option (List Try) → Option (List Try) → List Heard → Result (Unit {0}) FeedStop → Type 0
-Exchanged before after hs (Err stop.Memory) = ⊤
+abbrev pub Exchanged : Option (List Try) → Option (List Try) → List Heard → Result (Unit {0}) (RunStop FeedFault) → Type 0
+Exchanged before after hs (Err (Stream stream.Memory)) = ⊤
 Exchanged before after hs _ = Logs before after hs
 
 -- feed `f` continues with the tries `hs` and ends with `result`
-pub record Goes (f : Feed) (hs : List Heard) (log_before log_after : Option (List Try)) (before after : Option (List ℕ)) (result : Result (Unit {0}) FeedStop) : Type 0 where
+pub record Goes (f : Feed) (hs : List Heard) (log_before log_after : Option (List Try)) (before after : Option (List ℕ)) (result : Result (Unit {0}) (RunStop FeedFault)) : Type 0 where
   pub tries : AreTries f hs
   pub exchanged : Exchanged log_before log_after hs result
   pub ends : EndsBy (feed_after f hs) result
   pub written : Written before after (printed f hs) result
 
 -- a feed ends; if the reader failed, nothing was printed or sent
-abbrev pub FeedEnds : (List ℕ → Feed) → Option (List ℕ) → Option (List Try) → Option (List Try) → Option (List ℕ) → Option (List ℕ) → Result (Unit {0}) FeedStop → Type 0
-FeedEnds first known log_before log_after before after (Err stop.ReadFailed) = (log_after ≡ log_before) × Keeps before after
+abbrev pub FeedEnds : (List ℕ → Feed) → Option (List ℕ) → Option (List Try) → Option (List Try) → Option (List ℕ) → Option (List ℕ) → Result (Unit {0}) (RunStop FeedFault) → Type 0
+FeedEnds first known log_before log_after before after (Err (Stream stream.ReadFailed)) = (log_after ≡ log_before) × Keeps before after
 FeedEnds first known log_before log_after before after result =
     (raw : List ℕ) × Agrees known raw × (hs : List Heard) × Goes (first raw) hs log_before log_after before after result
 
--- the text of a reason to stop
-abbrev pub stop_text : FeedStop → List ℕ
-stop_text stop.BadLine = codes "a line is malformed"
-stop_text stop.Stale = codes "the boot is released"
-stop_text stop.NoReply = codes "no reply came"
-stop_text stop.ReadFailed = codes "the reader failed"
-stop_text stop.WriteFailed = codes "the writer failed"
-stop_text stop.Memory = codes "out of memory"
+-- the text of a fault
+abbrev pub fault_text : FeedFault → List ℕ
+fault_text fault.BadLine = codes "a line is malformed"
+fault_text fault.Stale = codes "the boot is released"
+fault_text fault.NoReply = codes "no reply came"
 
 -- ---- intermediate results
 
@@ -134,19 +132,15 @@ abbrev pub IsSettled : Feed → Type 0
 IsSettled f = IsSettledAt f.left f.feeder.stand
 
 -- the end of a feed without a pending request
-abbrev pub IsEnd : Feed → Result (Unit {0}) FeedStop → Type 0
+abbrev pub IsEnd : Feed → Result (Unit {0}) (RunStop FeedFault) → Type 0
 IsEnd f (Ok u) = EndsBy f (Ok u)
-IsEnd f (Err stop.BadLine) = EndsBy f (Err stop.BadLine)
-IsEnd f (Err stop.Stale) = EndsBy f (Err stop.Stale)
+IsEnd f (Err (Own fault.BadLine)) = EndsBy f (Err (Own fault.BadLine))
+IsEnd f (Err (Own fault.Stale)) = EndsBy f (Err (Own fault.Stale))
 IsEnd f (Err _) = ⊥
 
 -- the output of a try was written, or only a prefix of it if the writer failed
-abbrev pub IsPrinted : Feed → Feed → Option (List ℕ) → Option (List ℕ) → Result (Unit {0}) FeedStop → Type 0
+abbrev pub IsPrinted : Feed → Feed → Option (List ℕ) → Option (List ℕ) → Result (Unit {0}) (RunStop FeedFault) → Type 0
 IsPrinted heard after old new (Ok u) = (after ≡ heard) × Appends old new heard.text
-IsPrinted heard after old new (Err stop.WriteFailed) = AppendsBeginning old new heard.text
-IsPrinted heard after old new (Err stop.Memory) = new ≡ old
+IsPrinted heard after old new (Err (Stream stream.WriteFailed)) = AppendsBeginning old new heard.text
+IsPrinted heard after old new (Err (Stream stream.Memory)) = new ≡ old
 IsPrinted heard after old new (Err _) = ⊥
-
-abbrev pub stop_of_read : ReadFault → FeedStop
-stop_of_read read.Failed = stop.ReadFailed
-stop_of_read read.Memory = stop.Memory

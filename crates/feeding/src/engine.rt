@@ -12,7 +12,7 @@ ghost use Rattle.feeding.specs.Views.{AsksUnder, came_in, feed_view};
 
 use crate::events::{Tried, note_flaw};
 use crate::exchange::Exchange;
-use crate::feed::Feed;
+use crate::feed::{Feed, MachineStart};
 use event_lines::{EventLog, Level};
 use feeder::Stand;
 use job_facts::{Call, Reply};
@@ -21,85 +21,45 @@ use std::error::Error;
 use std::fmt;
 use std::io::{self, Read, Write};
 use store_data::Name;
-use text_io::{ReadFault, WriteFailed, lines_of, read_whole, write_text};
+use text_io::{RunStop, lines_of, read_whole, write_text};
 use wire::{parse_reply, request_text};
 
 /// The maximum number of consecutive tries that change nothing.
 const MOST_TRIES: u32 = 10;
 
-/// A reason why a feed stopped.
+/// A fault that only a feed has.
 #[derive(Clone, Copy, Debug, PartialEq, Eq)]
-pub enum FeedStop {
+pub enum FeedFault {
     /// A line is malformed: refusal 400.
     BadLine,
     /// A later boot of the machine released these request numbers: refusal 73.
     Stale,
     /// Ten consecutive tries brought no reply that changed anything.
     NoReply,
-    /// A read failed.
-    ReadFailed,
-    /// A write failed or accepted no bytes.
-    WriteFailed,
-    /// An allocation failed.
-    Memory,
 }
 
-impl fmt::Display for FeedStop {
+impl fmt::Display for FeedFault {
     ghost use Rattle.std.specs.Prelude.{Some};
-    ghost use Rattle.feeding.specs.Tries.{stop_text};
+    ghost use Rattle.feeding.specs.Tries.{fault_text};
 
-    ghost output = { λ stop. Some (stop_text stop) };
+    ghost output = { λ fault. Some (fault_text fault) };
 
     fn fmt<W: fmt::Write>(&self, f: &mut fmt::Formatter<W>) -> fmt::Result {
         match self {
-            FeedStop::BadLine => f.write_str("a line is malformed"),
-            FeedStop::Stale => f.write_str("the boot is released"),
-            FeedStop::NoReply => f.write_str("no reply came"),
-            FeedStop::ReadFailed => f.write_str("the reader failed"),
-            FeedStop::WriteFailed => f.write_str("the writer failed"),
-            FeedStop::Memory => f.write_str("out of memory"),
+            FeedFault::BadLine => f.write_str("a line is malformed"),
+            FeedFault::Stale => f.write_str("the boot is released"),
+            FeedFault::NoReply => f.write_str("no reply came"),
         }
     }
 }
 
-impl Error for FeedStop {}
+impl Error for FeedFault {}
 
-impl From<ReadFault> for FeedStop {
-    ghost use Rattle.feeding.specs.Tries.{stop_of_read};
+/// A reason why a feed stopped.
+pub type FeedStop = RunStop<FeedFault>;
 
-    ghost from_gives = { λ fault stop. stop ≡ stop_of_read fault };
-
-    fn from(fault: ReadFault) -> FeedStop {
-        match fault {
-            ReadFault::Failed => FeedStop::ReadFailed,
-            ReadFault::Memory => FeedStop::Memory,
-        }
-    }
-}
-
-impl From<AllocError> for FeedStop {
-    ghost use Rattle.feeding.specs.declared.engine.FeedStop.TheVariants.{Memory};
-
-    ghost from_gives = { λ _ stop. stop ≡ Memory };
-
-    fn from(_error: AllocError) -> FeedStop {
-        FeedStop::Memory
-    }
-}
-
-impl From<WriteFailed> for FeedStop {
-    ghost use Rattle.feeding.specs.declared.engine.FeedStop.TheVariants.{WriteFailed};
-
-    ghost from_gives = { λ _ stop. stop ≡ WriteFailed };
-
-    fn from(_error: WriteFailed) -> FeedStop {
-        FeedStop::WriteFailed
-    }
-}
-
-/// Processes the cards of `reader` as `machine`, one after another. `boot` is a boot number that
-/// the machine never had before, 1 to 9,999,999,999. Every request is sent on its own connection of
-/// `exchange`.
+/// Processes the cards of `reader` as the machine of `start`, one after another. Every request is
+/// sent on its own connection of `exchange`.
 ///
 /// A line of `reader` is a card: its serial number and its status words, `SERIAL SW SW ..`. Once
 /// they are used up the card returns 9000. For each command that a card receives `SERIAL HEX SW` is
@@ -118,30 +78,19 @@ impl From<WriteFailed> for FeedStop {
 /// - `Memory`: an allocation fails.
 pub fn feed_engine<R: Read, W: Write, X: Exchange>(
     alloc: Global,
-    machine: Name,
-    boot: u64,
-    batch: Name,
+    start: MachineStart,
     reader: &mut R,
     writer: &mut W,
     exchange: &mut X,
 ) -> Result<(), FeedStop>
-    requires least { 1 ≤ boot }
-    requires most { boot ≤ 9999999999 }
-    ensures { FeedEnds (at_first machine boot batch) (R.remaining reader.old)
+    requires least { 1 ≤ start.boot }
+    requires most { start.boot ≤ 9999999999 }
+    ensures { FeedEnds (at_first start.machine start.boot start.batch) (R.remaining reader.old)
         (X.log exchange.old) (X.log exchange.new) (W.contents writer.old)
         (W.contents writer.new) result }
 {
     let mut events = EventLog::new(Level::Off, io::sink());
-    feed_with_events(
-        alloc,
-        machine,
-        boot,
-        batch,
-        reader,
-        writer,
-        exchange,
-        &mut events,
-    )
+    feed_with_events(alloc, start, reader, writer, exchange, &mut events)
 }
 
 /// Does the same as `feed_engine`, and writes event lines to `events`: for each rejected card the
@@ -155,23 +104,21 @@ pub fn feed_engine<R: Read, W: Write, X: Exchange>(
 /// The same as for `feed_engine`.
 pub fn feed_with_events<R: Read, W: Write, X: Exchange, E: Write + Drop>(
     alloc: Global,
-    machine: Name,
-    boot: u64,
-    batch: Name,
+    start: MachineStart,
     reader: &mut R,
     writer: &mut W,
     exchange: &mut X,
     events: &mut EventLog<E>,
 ) -> Result<(), FeedStop>
-    requires least { 1 ≤ boot }
-    requires most { boot ≤ 9999999999 }
-    ensures { FeedEndsWithEvents E.contents (at_first machine boot batch)
+    requires least { 1 ≤ start.boot }
+    requires most { start.boot ≤ 9999999999 }
+    ensures { FeedEndsWithEvents E.contents (at_first start.machine start.boot start.batch)
         (R.remaining reader.old) (X.log exchange.old) (X.log exchange.new)
         (W.contents writer.old) (W.contents writer.new) events.old events.new result }
 {
     let raw = read_whole(alloc, reader)?;
     let lines = lines_of(alloc, raw.as_slice())?;
-    let mut feed = Feed::new(alloc, machine, boot, batch, lines.as_slice());
+    let mut feed = Feed::new(alloc, start, lines.as_slice());
     feed_all(alloc, &mut feed, writer, exchange, events)
 }
 
@@ -191,7 +138,7 @@ fn feed_all<W: Write, X: Exchange, E: Write + Drop>(
 {
     while let Some((number, call)) = feed.feeder.ask() {
         if feed.tries >= MOST_TRIES {
-            return Err(FeedStop::NoReply);
+            return Err(RunStop::Own(FeedFault::NoReply));
         }
         let response = one_try(alloc, feed.feeder.machine(), number, call, exchange)?;
         go_on(alloc, feed, number, response, writer, events)?;
@@ -294,11 +241,11 @@ fn end<E: Write + Drop>(
         Stand::Idle => {
             if feed.at < feed.lines.len() {
                 note_flaw(alloc, feed.at as u64 + 1, feed.lines[feed.at], events);
-                Err(FeedStop::BadLine)
+                Err(RunStop::Own(FeedFault::BadLine))
             } else {
                 Ok(())
             }
         }
-        _ => Err(FeedStop::Stale),
+        _ => Err(RunStop::Own(FeedFault::Stale)),
     }
 }

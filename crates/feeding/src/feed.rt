@@ -34,6 +34,15 @@ pub(crate) struct Rejected<'a> {
     pub(crate) lines: &'a [&'a [u8]],
 }
 
+/// The start of a machine, and the batch that its cards are for.
+#[derive(Clone, Copy)]
+pub struct MachineStart {
+    pub machine: Name,
+    /// A boot number that the machine never had before, 1 to 9,999,999,999.
+    pub boot: u64,
+    pub batch: Name,
+}
+
 /// A feed: the feeder, the last inserted card, all lines, the number of lines taken, and the output
 /// of the last try.
 #[derive(Drop)]
@@ -49,21 +58,15 @@ pub(crate) struct Feed<'a> {
 
 impl<'a> Feed<'a> {
     /// Creates the feed of a machine that starts. `lines` are its cards.
-    pub(crate) fn new(
-        alloc: Global,
-        machine: Name,
-        boot: u64,
-        batch: Name,
-        lines: &'a [&'a [u8]],
-    ) -> Feed<'a>
-        requires least { 1 ≤ boot }
-        requires most { boot ≤ 9999999999 }
+    pub(crate) fn new(alloc: Global, start: MachineStart, lines: &'a [&'a [u8]]) -> Feed<'a>
+        requires least { 1 ≤ start.boot }
+        requires most { start.boot ≤ 9999999999 }
         ensures { (raw : List ℕ) → map (λ l. l.now) lines.now ≡ lines_in raw
-            → feed_view result ≡ at_first machine boot batch raw }
+            → feed_view result ≡ at_first start.machine start.boot start.batch raw }
     {
         Feed {
-            feeder: Feeder::start(machine, boot),
-            batch,
+            feeder: Feeder::start(start.machine, start.boot),
+            batch: start.batch,
             card: Card::new(0, Vec::new(alloc)),
             lines,
             at: 0,

@@ -8,6 +8,7 @@ mod exchange;
 mod feed;
 mod flaw;
 
-pub use engine::{FeedStop, feed_engine, feed_with_events};
+pub use engine::{FeedFault, FeedStop, feed_engine, feed_with_events};
 pub use exchange::Exchange;
+pub use feed::MachineStart;
 pub use flaw::{Flaw, flaw_of};
