@@ -10,15 +10,19 @@ use Rattle.job_facts.specs.Store.{State}
 use Rattle.job_facts.specs.declared.store.StoreFault.{StoreFault}
 use Rattle.job_facts.specs.declared.store.StoreFault.TheVariants as fault
 use Rattle.text_io.proofs.Pieces.{begun}
-use Rattle.text_io.specs.Inputs.{Agrees}
+use Rattle.text_io.specs.Stops.{stream_fault_of}
 use Rattle.text_io.specs.Written.{AppendsBeginning}
 use Rattle.text_io.specs.declared.reading.ReadFault.{ReadFault}
 use Rattle.text_io.specs.declared.reading.ReadFault.TheVariants as read
+use Rattle.text_io.specs.declared.stop.RunStop.{RunStop}
+use Rattle.text_io.specs.declared.stop.RunStop.TheVariants.{Own, Stream}
+use Rattle.text_io.specs.declared.stop.StreamFault.TheVariants as stream
+use Rattle.text_io.proofs.Limits.{agrees_some}
 use Rattle.drill.specs.Floors.{Floor, empty_floor}
-use Rattle.drill.specs.declared.stop.DrillStop.{DrillStop}
-use Rattle.drill.specs.declared.stop.DrillStop.TheVariants as stop
+use Rattle.drill.specs.declared.stop.DrillFault.{DrillFault}
+use Rattle.drill.specs.declared.stop.DrillFault.TheVariants.{BadLine}
 use Rattle.drill.specs.Steps.{LineEffect, Steps}
-use Rattle.drill.specs.Ends.{AreDone, Done, DrillsOver, Goes, GoesOn, IsWritten, Runs, printed, stop_of_read, unopened}
+use Rattle.drill.specs.Ends.{AreDone, Done, DrillsOver, Goes, GoesOn, IsWritten, Runs, printed, unopened}
 use Rattle.drill.proofs.ScriptLemmas.{here, text_of}
 
 -- ---- lines after other lines
@@ -45,16 +49,15 @@ goes_more state usable s fl ls a b c m flm lm last floor left (ds, all, wrote) (
   subst (Appends a c) (sym (text_of_both ds es None)) (Appends-trans a b c (printed ds None) (printed es None) wrote next),
 )
 
-written_more : (a b c : Option (List ℕ)) (before text : List ℕ) (r : Result (Unit {0}) DrillStop) → Appends a b before → IsWritten b c text r → IsWritten a c (before ++ text) r
+written_more : (a b c : Option (List ℕ)) (before text : List ℕ) (r : Result (Unit {0}) (RunStop DrillFault)) → Appends a b before → IsWritten b c text r → IsWritten a c (before ++ text) r
 written_more a b c before text (Ok u) first next = Appends-trans a b c before text first next
-written_more a b c before text (Err (stop.BadLine n)) first next = Appends-trans a b c before text first next
-written_more a b c before text (Err stop.Storage) first next = Appends-trans a b c before text first next
-written_more a b c before text (Err stop.ReadFailed) first next = next
-written_more a b c before text (Err stop.WriteFailed) first next =
+written_more a b c before text (Err (Own own)) first next = Appends-trans a b c before text first next
+written_more a b c before text (Err (Stream stream.ReadFailed)) first next = next
+written_more a b c before text (Err (Stream stream.WriteFailed)) first next =
     subst (AppendsBeginning a c) (ap (λ t. before ++ t) (append-nil text)) (begun a b c before text [] first next)
-written_more a b c before text (Err stop.Memory) first next = Appends-trans a b c before text first next
+written_more a b c before text (Err (Stream stream.Memory)) first next = Appends-trans a b c before text first next
 
-runs_more : {S : Type 0} (state : S → State) (usable : S → Type 0) (s : S) (fl : Floor) (count : ℕ) (ls : List (List ℕ)) (a b c : Option (List ℕ)) (m : S) (flm : Floor) (lm : List (List ℕ)) (r : Result (Unit {0}) DrillStop)
+runs_more : {S : Type 0} (state : S → State) (usable : S → Type 0) (s : S) (fl : Floor) (count : ℕ) (ls : List (List ℕ)) (a b c : Option (List ℕ)) (m : S) (flm : Floor) (lm : List (List ℕ)) (r : Result (Unit {0}) (RunStop DrillFault))
     → Goes state usable s fl ls a b m flm lm → Runs state usable m flm count lm b c r → Runs state usable s fl count ls a c r
 runs_more state usable s fl count ls a b c m flm lm r (ds, all, wrote) run = record {
   did = ds ++ run.did;
@@ -90,7 +93,7 @@ line_more state usable s fl ls behind at taken d a b c m flm last floor within r
     (subst (Goes state usable s fl texts a b m flm) (here ls behind texts at one refl within (own ls at d within) rest) so_far) next)
 
 -- After the earlier lines, a run that starts at position `at` completes the run of all lines.
-pub line_last : {S : Type 0} (state : S → State) (usable : S → Type 0) (s : S) (fl : Floor) (ls behind : List (Bor (List ℕ))) (at number : ℕ) (d : Bor (List ℕ)) (a b c : Option (List ℕ)) (m : S) (flm : Floor) (r : Result (Unit {0}) DrillStop)
+pub line_last : {S : Type 0} (state : S → State) (usable : S → Type 0) (s : S) (fl : Floor) (ls behind : List (Bor (List ℕ))) (at number : ℕ) (d : Bor (List ℕ)) (a b c : Option (List ℕ)) (m : S) (flm : Floor) (r : Result (Unit {0}) (RunStop DrillFault))
     → at < length ls → number ≡ at + 1 → behind ≡ drop (at + 1) ls → Goes state usable s fl (map text_of ls) a b m flm (drop at (map text_of ls))
     → Runs state usable m flm (number + length behind) ((get_or ls at d).now ∷ map text_of behind) b c r → Runs state usable s fl (length ls) (map text_of ls) a c r
 line_last state usable s fl ls behind at number d a b c m flm r within of rest so_far run =
@@ -112,11 +115,11 @@ line_goes state usable s served store fl l behind did a b step goes wrote =
     (one_done did served store ∷ [], (step, goes, (refl, refl, refl)), subst (Appends a b) (sym (append-nil did.text)) wrote)
 
 -- If an allocation fails before anything is printed, the run ends with `Memory`.
-pub line_unmade : {S : Type 0} (state : S → State) (usable : S → Type 0) (s : S) (fl : Floor) (count : ℕ) (ls : List (List ℕ)) (a : Option (List ℕ)) → Runs state usable s fl count ls a a (Err stop.Memory)
+pub line_unmade : {S : Type 0} (state : S → State) (usable : S → Type 0) (s : S) (fl : Floor) (count : ℕ) (ls : List (List ℕ)) (a : Option (List ℕ)) → Runs state usable s fl count ls a a (Err (Stream stream.Memory))
 line_unmade state usable s fl count ls a = record { did = []; last = s; floor = fl; left = ls; ended_in = None; done = (refl, refl, refl); ends = tt; written = Appends-nil a }
 
 pub line_bad : {S : Type 0} (state : S → State) (usable : S → Type 0) (s after : S) (fl : Floor) (number : ℕ) (l : List ℕ) (behind : List (Bor (List ℕ))) (a : Option (List ℕ))
-    → Steps state s after fl l (map text_of behind) None → Runs state usable s fl (number + length behind) (l ∷ map text_of behind) a a (Err (stop.BadLine number))
+    → Steps state s after fl l (map text_of behind) None → Runs state usable s fl (number + length behind) (l ∷ map text_of behind) a a (Err (Own (BadLine number)))
 line_bad state usable s after fl number l behind a step = record {
   did = [];
   last = s;
@@ -129,7 +132,7 @@ line_bad state usable s after fl number l behind a step = record {
 }
 
 pub line_unwritten : {S : Type 0} (state : S → State) (usable : S → Type 0) (s served : S) (fl : Floor) (count : ℕ) (l : List ℕ) (behind : List (List ℕ)) (did : LineEffect) (a b : Option (List ℕ))
-    → Steps state s served fl l behind (Some did) → AppendsBeginning a b did.text → Runs state usable s fl count (l ∷ behind) a b (Err stop.WriteFailed)
+    → Steps state s served fl l behind (Some did) → AppendsBeginning a b did.text → Runs state usable s fl count (l ∷ behind) a b (Err (Stream stream.WriteFailed))
 line_unwritten state usable s served fl count l behind did a b step wrote =
     record { did = []; last = s; floor = fl; left = l ∷ behind; ended_in = Some did; done = (refl, refl, refl); ends = (served, step); written = wrote }
 
@@ -145,12 +148,8 @@ line_unopened state usable s served fl count l behind did a b fault.Full step wr
 
 -- ---- a script
 
-agrees_some : (known : Option (List ℕ)) → Agrees known (unwrap_or known [])
-agrees_some None = tt
-agrees_some (Some all) = refl
-
 -- The run ends if the lines of the script can't be read.
-pub unread_all : {S : Type 0} (state : S → State) (usable : S → Type 0) (s : S) (known a : Option (List ℕ)) (r : Result (Unit {0}) DrillStop) (why : DrillStop) (fault : ReadFault) → r ≡ Err why → why ≡ stop_of_read fault
+pub unread_all : {S : Type 0} (state : S → State) (usable : S → Type 0) (s : S) (known a : Option (List ℕ)) (r : Result (Unit {0}) (RunStop DrillFault)) (why : RunStop DrillFault) (unread : ReadFault) → r ≡ Err why → why ≡ Stream (stream_fault_of unread)
     → DrillsOver state usable s known a a r
 unread_all state usable s known a r why read.Failed is of = rw (is, of) (Keeps-refl a)
 unread_all state usable s known a r why read.Memory is of = rw (is, of) (unwrap_or known [], agrees_some known, line_unmade state usable s empty_floor _ _ a)

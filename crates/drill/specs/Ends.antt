@@ -8,12 +8,13 @@ use Rattle.job_facts.specs.declared.store.StoreFault.{StoreFault}
 use Rattle.job_facts.specs.declared.store.StoreFault.TheVariants as fault
 use Rattle.text_io.specs.Inputs.{Agrees}
 use Rattle.text_io.specs.Written.{AppendsBeginning}
-use Rattle.text_io.specs.declared.reading.ReadFault.{ReadFault}
-use Rattle.text_io.specs.declared.reading.ReadFault.TheVariants as read
+use Rattle.text_io.specs.declared.stop.RunStop.{RunStop}
+use Rattle.text_io.specs.declared.stop.RunStop.TheVariants.{Own, Stream}
+use Rattle.text_io.specs.declared.stop.StreamFault.TheVariants as stream
 use Rattle.text_io.specs.Lines.{lines}
 use Rattle.drill.specs.Floors.{Floor, empty_floor}
-use Rattle.drill.specs.declared.stop.DrillStop.{DrillStop}
-use Rattle.drill.specs.declared.stop.DrillStop.TheVariants as stop
+use Rattle.drill.specs.declared.stop.DrillFault.{DrillFault}
+use Rattle.drill.specs.declared.stop.DrillFault.TheVariants.{BadLine, Storage}
 use Rattle.job_facts.specs.Reopening.{IsAnew, Reopens}
 use Rattle.drill.specs.Steps.{LineEffect, Steps}
 
@@ -51,33 +52,32 @@ IsLast {S} state s fl (l ∷ behind) did = (served : S) × Steps state s served 
 
 -- the reason why a drill ends after a line was run: its output wasn't written completely, or the
 -- store can't be opened again after a crash
-abbrev pub EndsIn : {S : Type 0} → (S → State) → S → Floor → List (List ℕ) → LineEffect → DrillStop → Type 0
-EndsIn state s fl left did (stop.BadLine n) = ⊥
-EndsIn state s fl left did stop.WriteFailed = IsLast state s fl left did
-EndsIn state s fl left did stop.Memory = IsLast state s fl left did × (did.stops ≡ true)
-EndsIn state s fl left did stop.Storage = IsLast state s fl left did × (did.stops ≡ true)
-EndsIn state s fl left did stop.ReadFailed = ⊥
+abbrev pub EndsIn : {S : Type 0} → (S → State) → S → Floor → List (List ℕ) → LineEffect → RunStop DrillFault → Type 0
+EndsIn state s fl left did (Own (BadLine n)) = ⊥
+EndsIn state s fl left did (Stream stream.WriteFailed) = IsLast state s fl left did
+EndsIn state s fl left did (Stream stream.Memory) = IsLast state s fl left did × (did.stops ≡ true)
+EndsIn state s fl left did (Own Storage) = IsLast state s fl left did × (did.stops ≡ true)
+EndsIn state s fl left did (Stream stream.ReadFailed) = ⊥
 
 -- the reason why a drill of `count` lines ends while the lines `left` remain; the first of them may
 -- have been run
-abbrev pub EndsAt : {S : Type 0} → (S → State) → S → Floor → ℕ → List (List ℕ) → Option LineEffect → Result (Unit {0}) DrillStop → Type 0
+abbrev pub EndsAt : {S : Type 0} → (S → State) → S → Floor → ℕ → List (List ℕ) → Option LineEffect → Result (Unit {0}) (RunStop DrillFault) → Type 0
 EndsAt state s fl count left None (Ok u) = left ≡ []
-EndsAt state s fl count left None (Err (stop.BadLine n)) = IsBadLine state s fl count n left
-EndsAt state s fl count left None (Err stop.WriteFailed) = ⊤
-EndsAt state s fl count left None (Err stop.Memory) = ⊤
-EndsAt state s fl count left None (Err stop.Storage) = ⊥
-EndsAt state s fl count left None (Err stop.ReadFailed) = ⊥
+EndsAt state s fl count left None (Err (Own (BadLine n))) = IsBadLine state s fl count n left
+EndsAt state s fl count left None (Err (Stream stream.WriteFailed)) = ⊤
+EndsAt state s fl count left None (Err (Stream stream.Memory)) = ⊤
+EndsAt state s fl count left None (Err (Own Storage)) = ⊥
+EndsAt state s fl count left None (Err (Stream stream.ReadFailed)) = ⊥
 EndsAt state s fl count left (Some did) (Ok u) = ⊥
 EndsAt state s fl count left (Some did) (Err why) = EndsIn state s fl left did why
 
 -- `text` was written, or only a prefix of it if the writer failed
-abbrev pub IsWritten : Option (List ℕ) → Option (List ℕ) → List ℕ → Result (Unit {0}) DrillStop → Type 0
-IsWritten before after text (Err stop.WriteFailed) = AppendsBeginning before after text
+abbrev pub IsWritten : Option (List ℕ) → Option (List ℕ) → List ℕ → Result (Unit {0}) (RunStop DrillFault) → Type 0
+IsWritten before after text (Err (Stream stream.WriteFailed)) = AppendsBeginning before after text
 IsWritten before after text (Ok u) = Appends before after text
-IsWritten before after text (Err (stop.BadLine n)) = Appends before after text
-IsWritten before after text (Err stop.Memory) = Appends before after text
-IsWritten before after text (Err stop.Storage) = Appends before after text
-IsWritten before after text (Err stop.ReadFailed) = ⊥
+IsWritten before after text (Err (Own own)) = Appends before after text
+IsWritten before after text (Err (Stream stream.Memory)) = Appends before after text
+IsWritten before after text (Err (Stream stream.ReadFailed)) = ⊥
 
 abbrev pub printed : {S : Type 0} → List (Done S) → Option LineEffect → List ℕ
 printed ds None = flat_map (λ d. d.did.text) ds
@@ -85,7 +85,7 @@ printed ds (Some last) = flat_map (λ d. d.did.text) ds ++ last.text
 
 -- the run of the lines `ls`, the last ones of a script of `count` lines, from the store `s` and the
 -- shop floor `fl`
-pub record Runs {S : Type 0} (state : S → State) (usable : S → Type 0) (s : S) (fl : Floor) (count : ℕ) (ls : List (List ℕ)) (before after : Option (List ℕ)) (result : Result (Unit {0}) DrillStop) : Type 0 where
+pub record Runs {S : Type 0} (state : S → State) (usable : S → Type 0) (s : S) (fl : Floor) (count : ℕ) (ls : List (List ℕ)) (before after : Option (List ℕ)) (result : Result (Unit {0}) (RunStop DrillFault)) : Type 0 where
   pub did : List (Done S)
   pub last : S
   pub floor : Floor
@@ -96,26 +96,22 @@ pub record Runs {S : Type 0} (state : S → State) (usable : S → Type 0) (s : 
   pub written : IsWritten before after (printed did ended_in) result
 
 -- the run of all lines of the script `known`, from an empty shop floor
-abbrev pub RunsAll : {S : Type 0} → (S → State) → (S → Type 0) → S → Option (List ℕ) → Option (List ℕ) → Option (List ℕ) → Result (Unit {0}) DrillStop → Type 0
+abbrev pub RunsAll : {S : Type 0} → (S → State) → (S → Type 0) → S → Option (List ℕ) → Option (List ℕ) → Option (List ℕ) → Result (Unit {0}) (RunStop DrillFault) → Type 0
 RunsAll state usable s known before after result =
     (raw : List ℕ) × Agrees known raw × Runs state usable s empty_floor (length (lines raw)) (lines raw) before after result
 
 -- the run of a script; if the reader failed, nothing was printed
-abbrev pub DrillsOver : {S : Type 0} → (S → State) → (S → Type 0) → S → Option (List ℕ) → Option (List ℕ) → Option (List ℕ) → Result (Unit {0}) DrillStop → Type 0
-DrillsOver state usable s known before after (Err stop.ReadFailed) = Keeps before after
+abbrev pub DrillsOver : {S : Type 0} → (S → State) → (S → Type 0) → S → Option (List ℕ) → Option (List ℕ) → Option (List ℕ) → Result (Unit {0}) (RunStop DrillFault) → Type 0
+DrillsOver state usable s known before after (Err (Stream stream.ReadFailed)) = Keeps before after
 DrillsOver state usable s known before after (Ok u) = RunsAll state usable s known before after (Ok u)
-DrillsOver state usable s known before after (Err (stop.BadLine n)) = RunsAll state usable s known before after (Err (stop.BadLine n))
-DrillsOver state usable s known before after (Err stop.WriteFailed) = RunsAll state usable s known before after (Err stop.WriteFailed)
-DrillsOver state usable s known before after (Err stop.Memory) = RunsAll state usable s known before after (Err stop.Memory)
-DrillsOver state usable s known before after (Err stop.Storage) = RunsAll state usable s known before after (Err stop.Storage)
+DrillsOver state usable s known before after (Err (Own own)) = RunsAll state usable s known before after (Err (Own own))
+DrillsOver state usable s known before after (Err (Stream stream.WriteFailed)) = RunsAll state usable s known before after (Err (Stream stream.WriteFailed))
+DrillsOver state usable s known before after (Err (Stream stream.Memory)) = RunsAll state usable s known before after (Err (Stream stream.Memory))
 
--- the text of a reason to stop
-abbrev pub stop_text : DrillStop → List ℕ
-stop_text (stop.BadLine n) = codes "bad line " ++ decimal n
-stop_text stop.Storage = codes "the store did not open"
-stop_text stop.ReadFailed = codes "the reader failed"
-stop_text stop.WriteFailed = codes "the writer failed"
-stop_text stop.Memory = codes "out of memory"
+-- the text of a fault
+abbrev pub fault_text : DrillFault → List ℕ
+fault_text (BadLine n) = codes "bad line " ++ decimal n
+fault_text Storage = codes "the store did not open"
 
 -- ---- intermediate results
 
@@ -125,11 +121,11 @@ abbrev pub Goes : {S : Type 0} → (S → State) → (S → Type 0) → S → Fl
 Goes {S} state usable s fl ls before after last floor left =
     (ds : List (Done S)) × AreDone state usable s fl ls ds last floor left × Appends before after (printed ds None)
 
-abbrev pub stop_of_read : ReadFault → DrillStop
-stop_of_read read.Failed = stop.ReadFailed
-stop_of_read read.Memory = stop.Memory
+-- the reason to stop if the store can't be opened
+abbrev pub unopened : StoreFault → RunStop DrillFault
+unopened fault.Memory = Stream stream.Memory
+unopened fault.Device = Own Storage
+unopened fault.Full = Own Storage
 
-abbrev pub unopened : StoreFault → DrillStop
-unopened fault.Memory = stop.Memory
-unopened fault.Device = stop.Storage
-unopened fault.Full = stop.Storage
+abbrev pub IsUnopened : RunStop DrillFault → Type 0
+IsUnopened why = (fault : StoreFault) × (why ≡ unopened fault)

@@ -2,15 +2,15 @@
 ghost use Rattle.std.specs.Prelude.{◌≡◌, ◌+◌, ◌≤◌, ◌∷◌, IfErr, IfOk, Err, drop, length, map};
 ghost use Rattle.std.specs.Prelude.{true};
 ghost use Rattle.drill.specs.Floors.{empty_floor};
-ghost use Rattle.drill.specs.Ends.{DrillsOver, Goes, GoesOn, Runs};
+ghost use Rattle.drill.specs.Ends.{DrillsOver, Goes, GoesOn, IsUnopened, Runs};
 
 use crate::floor::Floor;
 use crate::step::step;
-use crate::stop::DrillStop;
-use job_facts::{Reopen, StoreFault};
+use crate::stop::{DrillFault, DrillStop, unopened};
+use job_facts::Reopen;
 use std::alloc::Global;
 use std::io::{Read, Write};
-use text_io::{lines_of, read_whole, write_text};
+use text_io::{RunStop, lines_of, read_whole, write_text};
 
 /// Runs the lines of a script with `store` and a shop floor that has no machines yet, and writes
 /// the result of each line to `writer` before it runs the next line. The lines are `office N JSON`,
@@ -70,7 +70,7 @@ fn do_lines<S: Reopen + Drop, W: Write>(
     Ok(())
 }
 
-// The next line with its number, from 1, and the lines behind it.
+// The next line with its number, counted from 1, and the lines after it.
 #[derive(Clone, Copy)]
 struct NextLine<'a> {
     number: u64,
@@ -78,7 +78,7 @@ struct NextLine<'a> {
     behind: &'a [&'a [u8]],
 }
 
-// Runs a line. Returns the store after it, and how many of the lines behind it were its file.
+// Runs a line. Returns the store after it, and how many of the following lines were its file.
 fn do_line<S: Reopen + Drop, W: Write>(
     alloc: Global,
     floor: &mut Floor,
@@ -96,7 +96,7 @@ fn do_line<S: Reopen + Drop, W: Write>(
         (W.contents writer.old) (W.contents writer.new) (Err why)) }
 {
     let Some(did) = step(alloc, floor, &mut store, line.text, line.behind)? else {
-        return Err(DrillStop::BadLine(line.number));
+        return Err(RunStop::Own(DrillFault::BadLine(line.number)));
     };
     write_text(writer, did.text.as_slice())?;
     let taken = did.taken;
@@ -105,13 +105,15 @@ fn do_line<S: Reopen + Drop, W: Write>(
 }
 
 // Returns the store for the next line: the same one, or after a crash the reopened one.
-fn go_on<S: Reopen>(alloc: Global, store: S, stops: bool) -> Result<S, StoreFault>
+fn go_on<S: Reopen>(alloc: Global, store: S, stops: bool) -> Result<S, DrillStop>
     ensures goes { IfOk result (λ next. GoesOn S.state S.usable store next stops) }
-    ensures stopped { IfErr result (λ _. stops ≡ true) }
+    ensures stopped { IfErr result (λ why. (stops ≡ true) × IsUnopened why) }
 {
-    if stops {
-        store.reopen(alloc)
-    } else {
-        Ok(store)
+    if !stops {
+        return Ok(store);
+    }
+    match store.reopen(alloc) {
+        Ok(next) => Ok(next),
+        Err(fault) => Err(unopened(fault)),
     }
 }

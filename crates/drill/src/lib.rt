@@ -18,4 +18,4 @@ mod turn;
 pub use engine::drill_over;
 pub use inputs::serve_inputs;
 pub use lists::drill_over_lists;
-pub use stop::DrillStop;
+pub use stop::{DrillFault, DrillStop, unopened};

@@ -1,88 +1,46 @@
 //! The reasons why a drill stops.
 ghost use Rattle.std.specs.Prelude.{◌≡◌};
+ghost use Rattle.drill.specs.Ends.{unopened};
 
 use job_facts::StoreFault;
-use std::alloc::AllocError;
 use std::error::Error;
 use std::fmt;
-use text_io::{ReadFault, WriteFailed};
+use text_io::{RunStop, StreamFault};
 
-/// A reason why a drill stopped.
+/// A fault that only a drill has.
 #[derive(Clone, Copy, Debug, PartialEq, Eq)]
-pub enum DrillStop {
+pub enum DrillFault {
     /// This line, counted from 1, is malformed or names something that doesn't exist.
     BadLine(u64),
-    /// The store couldn't be opened again.
+    /// The store couldn't be opened.
     Storage,
-    /// A read failed.
-    ReadFailed,
-    /// A write failed or accepted no bytes.
-    WriteFailed,
-    /// An allocation failed.
-    Memory,
 }
 
-impl fmt::Display for DrillStop {
+impl fmt::Display for DrillFault {
     ghost use Rattle.std.specs.Prelude.{Some};
-    ghost use Rattle.drill.specs.Ends.{stop_text};
+    ghost use Rattle.drill.specs.Ends.{fault_text};
 
-    ghost output = { λ stop. Some (stop_text stop) };
+    ghost output = { λ fault. Some (fault_text fault) };
 
     fn fmt<W: fmt::Write>(&self, f: &mut fmt::Formatter<W>) -> fmt::Result {
         match self {
-            DrillStop::BadLine(line) => write!(f, "bad line {line}"),
-            DrillStop::Storage => f.write_str("the store did not open"),
-            DrillStop::ReadFailed => f.write_str("the reader failed"),
-            DrillStop::WriteFailed => f.write_str("the writer failed"),
-            DrillStop::Memory => f.write_str("out of memory"),
+            DrillFault::BadLine(line) => write!(f, "bad line {line}"),
+            DrillFault::Storage => f.write_str("the store did not open"),
         }
     }
 }
 
-impl Error for DrillStop {}
+impl Error for DrillFault {}
 
-impl From<ReadFault> for DrillStop {
-    ghost use Rattle.drill.specs.Ends.{stop_of_read};
+/// A reason why a drill stopped.
+pub type DrillStop = RunStop<DrillFault>;
 
-    ghost from_gives = { λ fault stop. stop ≡ stop_of_read fault };
-
-    fn from(fault: ReadFault) -> DrillStop {
-        match fault {
-            ReadFault::Failed => DrillStop::ReadFailed,
-            ReadFault::Memory => DrillStop::Memory,
-        }
-    }
-}
-
-impl From<AllocError> for DrillStop {
-    ghost use Rattle.drill.specs.declared.stop.DrillStop.TheVariants.{Memory};
-
-    ghost from_gives = { λ _ stop. stop ≡ Memory };
-
-    fn from(_error: AllocError) -> DrillStop {
-        DrillStop::Memory
-    }
-}
-
-impl From<WriteFailed> for DrillStop {
-    ghost use Rattle.drill.specs.declared.stop.DrillStop.TheVariants.{WriteFailed};
-
-    ghost from_gives = { λ _ stop. stop ≡ WriteFailed };
-
-    fn from(_error: WriteFailed) -> DrillStop {
-        DrillStop::WriteFailed
-    }
-}
-
-impl From<StoreFault> for DrillStop {
-    ghost use Rattle.drill.specs.Ends.{unopened};
-
-    ghost from_gives = { λ fault stop. stop ≡ unopened fault };
-
-    fn from(fault: StoreFault) -> DrillStop {
-        match fault {
-            StoreFault::Memory => DrillStop::Memory,
-            StoreFault::Device | StoreFault::Full => DrillStop::Storage,
-        }
+/// Returns the reason to stop if the store can't be opened because of `fault`.
+pub fn unopened(fault: StoreFault) -> DrillStop
+    ensures { result ≡ unopened fault }
+{
+    match fault {
+        StoreFault::Memory => RunStop::Stream(StreamFault::Memory),
+        StoreFault::Device | StoreFault::Full => RunStop::Own(DrillFault::Storage),
     }
 }

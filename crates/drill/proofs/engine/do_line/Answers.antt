@@ -34,10 +34,11 @@ returns-in_err-store-clause-ends g c =
     let a = g.W.Write.contents c.args.writer.now in
     let b = g.W.Write.contents c.write_text.new.writer in
     let p = err_from_is_err_and c.from_residual-in_err-store.result c.from_residual-in_err-store.ensures.1 in
-    rw (p.1, p.2)
-    (line_unopened g.S.JobStore.state g.S.Reopen.usable c.args.store c.step.new.store c.args.floor.now _ c.args.line.text.now behind (effect_view c.step.new.floor c.in-Some.did) a b c.in_err-store.field-0.0
+    let (stops, (fault, is)) = c.in_err-store.ensures.stopped in
+    rw (p.1, p.2, is)
+    (line_unopened g.S.JobStore.state g.S.Reopen.usable c.args.store c.step.new.store c.args.floor.now _ c.args.line.text.now behind (effect_view c.step.new.floor c.in-Some.did) a b fault
     (subst (λ o. Steps g.S.JobStore.state c.args.store c.step.new.store c.args.floor.now c.args.line.text.now behind (effect_of c.step.new.floor o)) c.in-Some.is c.in_ok-did.ensures.steps)
-    (subst (Appends a b) c.as_slice.ensures.value c.in_ok-write_text.ensures) c.in_err-store.ensures.stopped)
+    (subst (Appends a b) c.as_slice.ensures.value c.in_ok-write_text.ensures) stops)
 
 pub returns-clause-done : goal.returns-clause-done
 returns-clause-done g c =
