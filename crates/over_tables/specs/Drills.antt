@@ -9,12 +9,13 @@ use Rattle.job_facts.specs.Store.{IsHonest}
 use Rattle.job_facts.specs.declared.store.StoreFault.{StoreFault}
 use Rattle.schema.specs.Stores.{connection, stands_for}
 use Rattle.schema.specs.declared.store.SqlStore.{SqlStore}
-use Rattle.drill.specs.declared.stop.DrillStop.{DrillStop}
+use Rattle.text_io.specs.declared.stop.RunStop.{RunStop}
+use Rattle.drill.specs.declared.stop.DrillFault.{DrillFault}
 use Rattle.drill.specs.Ends.{DrillsOver, unopened}
 
 -- No store could be created and nothing is written, or a store that is empty at first runs the
 -- script.
-abbrev pub DrillEnds : Option (List ℕ) → Option (List ℕ) → Option (List ℕ) → Result (Unit {0}) DrillStop → Type 0
+abbrev pub DrillEnds : Option (List ℕ) → Option (List ℕ) → Option (List ℕ) → Result (Unit {0}) (RunStop DrillFault) → Type 0
 DrillEnds known before after result =
     ((fault : StoreFault) × (result ≡ Err (unopened fault)) × Keeps before after)
     ⊎ ((s : SqlStore MemStore over_memory) × (IsHonest (stands_for over_memory s) → (stands_for over_memory s).holds no_contents)

@@ -1,12 +1,13 @@
 //! The engine of `persod drill`: runs a drill over the tables of a database in memory.
-ghost use Rattle.std.specs.Prelude.{IfOk};
+ghost use Rattle.std.specs.Prelude.{IfErr, IfOk};
 ghost use Rattle.sqlite.specs.Steps.{over_memory};
 ghost use Rattle.job_facts.specs.Contents.{no_contents};
 ghost use Rattle.job_facts.specs.Store.{IsHonest};
 ghost use Rattle.schema.specs.Stores.{stands_for};
+ghost use Rattle.drill.specs.Ends.{IsUnopened};
 ghost use Rattle.over_tables.specs.Drills.{DrillEnds};
 
-use drill::{DrillStop, drill_over};
+use drill::{DrillStop, drill_over, unopened};
 use job_facts::StoreFault;
 use schema::{OpenFault, SqlStore};
 use sqlite::{Connection, MemStore};
@@ -31,16 +32,15 @@ pub fn drill_engine<R: Read, W: Write>(
 }
 
 // Creates a store without contents.
-fn begun(alloc: Global) -> Result<SqlStore<MemStore>, StoreFault>
-    ensures { IfOk result (λ store. IsHonest (stands_for over_memory store)
+fn begun(alloc: Global) -> Result<SqlStore<MemStore>, DrillStop>
+    ensures empty { IfOk result (λ store. IsHonest (stands_for over_memory store)
         → (stands_for over_memory store).holds no_contents) }
+    ensures refused { IfErr result IsUnopened }
 {
-    let Ok(conn) = Connection::open_in_memory(alloc) else {
-        return Err(StoreFault::Memory);
-    };
+    let conn = Connection::open_in_memory(alloc)?;
     match SqlStore::create(alloc, conn) {
         Ok(store) => Ok(store),
-        Err((_, OpenFault::Store { fault })) => Err(fault),
-        Err(_) => Err(StoreFault::Device),
+        Err((_, OpenFault::Store { fault })) => Err(unopened(fault)),
+        Err(_) => Err(unopened(StoreFault::Device)),
     }
 }
