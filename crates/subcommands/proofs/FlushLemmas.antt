@@ -7,15 +7,17 @@ use Rattle.event_lines.specs.declared.log.EventLog.{EventLog}
 use Rattle.text_io.specs.Inputs.{Agrees}
 use Rattle.text_io.specs.Written.{AppendsBeginning}
 use Rattle.plan_print.specs.PlanEnds.{PlanEndsWithEvents}
-use Rattle.plan_print.specs.declared.plan.PlanStop.TheVariants as plan
+use Rattle.text_io.specs.declared.stop.RunStop.{RunStop}
+use Rattle.text_io.specs.declared.stop.RunStop.TheVariants.{Own, Stream}
+use Rattle.text_io.specs.declared.stop.StreamFault.TheVariants as stream
 use Rattle.job_facts.specs.Store.{State}
 use Rattle.job_facts.specs.declared.store.StoreFault.{StoreFault}
 use Rattle.job_facts.specs.declared.store.StoreFault.TheVariants as fault
 use Rattle.drill.specs.Floors.{Floor}
 use Rattle.drill.specs.Steps.{LineEffect}
 use Rattle.drill.specs.Ends.{EndsAt, IsWritten, Runs, printed, unopened}
-use Rattle.drill.specs.declared.stop.DrillStop.{DrillStop}
-use Rattle.drill.specs.declared.stop.DrillStop.TheVariants as drill
+use Rattle.drill.specs.declared.stop.DrillFault.{DrillFault}
+use Rattle.drill.specs.declared.stop.DrillFault.TheVariants as drill
 use Rattle.over_tables.specs.Drills.{DrillEnds}
 use Rattle.subcommands.specs.Runs.{DrillRuns, PlanRuns}
 use Rattle.subcommands.specs.declared.end.End.{End}
@@ -35,12 +37,12 @@ pub plan_flushed : {E : Type 0} (contents : E → Option (List ℕ)) (p : Produc
 plan_flushed contents p known before mid after old new end buffer (raw, agrees, ((rows, few, is, written), noted)) kept (inl done) =
     (raw, agrees, Ok tt, done.0, ((rows, few, is, Appends-kept before mid after _ written kept), noted))
 plan_flushed contents p known before mid after old new end buffer (raw, agrees, ((rows, few, is, written), noted)) kept (inr failed) =
-    (raw, agrees, Err plan.WriteFailed, failed, ((rows, few, is, whole before mid after _ written kept), noted))
+    (raw, agrees, Err (Stream stream.WriteFailed), failed, ((rows, few, is, whole before mid after _ written kept), noted))
 
 -- ---- a drill
 
 -- A run of lines is still a run if its text was written to another output.
-rewritten : {S : Type 0} (state : S → State) (usable : S → Type 0) (s : S) (fl : Floor) (count : ℕ) (ls : List (List ℕ)) (before mid after : Option (List ℕ)) (r : Result (Unit {0}) DrillStop) (runs : Runs state usable s fl count ls before mid r)
+rewritten : {S : Type 0} (state : S → State) (usable : S → Type 0) (s : S) (fl : Floor) (count : ℕ) (ls : List (List ℕ)) (before mid after : Option (List ℕ)) (r : Result (Unit {0}) (RunStop DrillFault)) (runs : Runs state usable s fl count ls before mid r)
     → IsWritten before after (printed runs.did runs.ended_in) r → Runs state usable s fl count ls before after r
 rewritten state usable s fl count ls before mid after r runs written = record {
   did = runs.did;
@@ -53,8 +55,8 @@ rewritten state usable s fl count ls before mid after r runs written = record {
   written = written;
 }
 
-lost : {S : Type 0} (state : S → State) (usable : S → Type 0) (s : S) (fl : Floor) (count : ℕ) (ls : List (List ℕ)) (before mid after : Option (List ℕ)) (r : Result (Unit {0}) DrillStop) (runs : Runs state usable s fl count ls before mid r)
-    → runs.ended_in ≡ None → AppendsBeginning before after (printed runs.did runs.ended_in) → Runs state usable s fl count ls before after (Err drill.WriteFailed)
+lost : {S : Type 0} (state : S → State) (usable : S → Type 0) (s : S) (fl : Floor) (count : ℕ) (ls : List (List ℕ)) (before mid after : Option (List ℕ)) (r : Result (Unit {0}) (RunStop DrillFault)) (runs : Runs state usable s fl count ls before mid r)
+    → runs.ended_in ≡ None → AppendsBeginning before after (printed runs.did runs.ended_in) → Runs state usable s fl count ls before after (Err (Stream stream.WriteFailed))
 lost state usable s fl count ls before mid after r runs went_on written = record {
   did = runs.did;
   last = runs.last;
@@ -71,7 +73,7 @@ none_late : {S : Type 0} (state : S → State) (s : S) (fl : Floor) (count : ℕ
 none_late state s fl count left None u ends = refl
 none_late state s fl count left (Some did) u ends = absurd ends
 
-none_bad : {S : Type 0} (state : S → State) (s : S) (fl : Floor) (count n : ℕ) (left : List (List ℕ)) (ended_in : Option LineEffect) → EndsAt state s fl count left ended_in (Err (drill.BadLine n)) → ended_in ≡ None
+none_bad : {S : Type 0} (state : S → State) (s : S) (fl : Floor) (count n : ℕ) (left : List (List ℕ)) (ended_in : Option LineEffect) → EndsAt state s fl count left ended_in (Err (Own (drill.BadLine n))) → ended_in ≡ None
 none_bad state s fl count n left None ends = refl
 none_bad state s fl count n left (Some did) ends = absurd ends
 
@@ -79,14 +81,14 @@ done_went_on : {S : Type 0} (state : S → State) (usable : S → Type 0) (s : S
     → runs.ended_in ≡ None
 done_went_on state usable s fl count ls before mid u runs = none_late state runs.last runs.floor count runs.left runs.ended_in u runs.ends
 
-bad_went_on : {S : Type 0} (state : S → State) (usable : S → Type 0) (s : S) (fl : Floor) (count n : ℕ) (ls : List (List ℕ)) (before mid : Option (List ℕ)) (runs : Runs state usable s fl count ls before mid (Err (drill.BadLine n)))
+bad_went_on : {S : Type 0} (state : S → State) (usable : S → Type 0) (s : S) (fl : Floor) (count n : ℕ) (ls : List (List ℕ)) (before mid : Option (List ℕ)) (runs : Runs state usable s fl count ls before mid (Err (Own (drill.BadLine n))))
     → runs.ended_in ≡ None
 bad_went_on state usable s fl count n ls before mid runs = none_bad state runs.last runs.floor count n runs.left runs.ended_in runs.ends
 
 never_unopened : (u : Unit {0}) (fault : StoreFault) → Ok u ≡ Err (unopened fault) → ⊥
 never_unopened u fault is = cc
 
-no_bad_line : (r : Result (Unit {0}) DrillStop) (n : ℕ) (fault : StoreFault) → r ≡ Err (drill.BadLine n) → r ≡ Err (unopened fault) → ⊥
+no_bad_line : (r : Result (Unit {0}) (RunStop DrillFault)) (n : ℕ) (fault : StoreFault) → r ≡ Err (Own (drill.BadLine n)) → r ≡ Err (unopened fault) → ⊥
 no_bad_line r n fault.Memory is at = cc
 no_bad_line r n fault.Device is at = cc
 no_bad_line r n fault.Full is at = cc
@@ -97,7 +99,7 @@ drill_flushed known before mid after end buffer (inl (fault, is, stays)) kept fl
 drill_flushed known before mid after end buffer (inr (s, holds, (raw, agrees, runs))) kept (inl done) =
     (Ok tt, done.0, inr (s, holds, (raw, agrees, rewritten _ _ s _ _ _ before mid after _ runs (Appends-kept before mid after _ runs.written kept))))
 drill_flushed known before mid after end buffer (inr (s, holds, (raw, agrees, runs))) kept (inr failed) = (
-  Err drill.WriteFailed,
+  Err (Stream stream.WriteFailed),
   failed,
   inr (
     s,
@@ -111,12 +113,12 @@ drill_flushed known before mid after end buffer (inr (s, holds, (raw, agrees, ru
 )
 
 pub bad_line_flushed : (n : ℕ) (known before mid after : Option (List ℕ)) (end : End) (buffer : List ℕ)
-    → DrillEnds known before mid (Err (drill.BadLine n)) → Keeps mid after → Flushes (BadLine n) end buffer → DrillRuns known before after end
-bad_line_flushed n known before mid after end buffer (inl (fault, is, stays)) kept flushes = absurd (no_bad_line (Err (drill.BadLine n)) n fault refl is)
+    → DrillEnds known before mid (Err (Own (drill.BadLine n))) → Keeps mid after → Flushes (BadLine n) end buffer → DrillRuns known before after end
+bad_line_flushed n known before mid after end buffer (inl (fault, is, stays)) kept flushes = absurd (no_bad_line (Err (Own (drill.BadLine n))) n fault refl is)
 bad_line_flushed n known before mid after end buffer (inr (s, holds, (raw, agrees, runs))) kept (inl done) =
-    (Err (drill.BadLine n), done.0, inr (s, holds, (raw, agrees, rewritten _ _ s _ _ _ before mid after _ runs (Appends-kept before mid after _ runs.written kept))))
+    (Err (Own (drill.BadLine n)), done.0, inr (s, holds, (raw, agrees, rewritten _ _ s _ _ _ before mid after _ runs (Appends-kept before mid after _ runs.written kept))))
 bad_line_flushed n known before mid after end buffer (inr (s, holds, (raw, agrees, runs))) kept (inr failed) = (
-  Err drill.WriteFailed,
+  Err (Stream stream.WriteFailed),
   failed,
   inr (
     s,

@@ -13,10 +13,14 @@ use Rattle.server_run.specs.declared.stopping.ServeStop.{ServeStop}
 use Rattle.server_run.specs.declared.stopping.ServeStop.TheVariants as serve
 use Rattle.over_tables.specs.declared.fault.FileFault.{FileFault}
 use Rattle.over_tables.specs.declared.fault.FileFault.TheVariants as file
-use Rattle.feeding.specs.declared.engine.FeedStop.{FeedStop}
-use Rattle.feeding.specs.declared.engine.FeedStop.TheVariants as feed
-use Rattle.drill.specs.declared.stop.DrillStop.{DrillStop}
-use Rattle.drill.specs.declared.stop.DrillStop.TheVariants as drill
+use Rattle.feeding.specs.declared.engine.FeedFault.{FeedFault}
+use Rattle.feeding.specs.declared.engine.FeedFault.TheVariants as feed
+use Rattle.drill.specs.declared.stop.DrillFault.{DrillFault}
+use Rattle.drill.specs.declared.stop.DrillFault.TheVariants as drill
+use Rattle.text_io.specs.declared.stop.RunStop.{RunStop}
+use Rattle.text_io.specs.declared.stop.RunStop.TheVariants.{Own, Stream}
+use Rattle.text_io.specs.declared.stop.StreamFault.{StreamFault}
+use Rattle.text_io.specs.declared.stop.StreamFault.TheVariants as stream
 use Rattle.subcommands.specs.declared.end.End.{End}
 use Rattle.subcommands.specs.declared.end.End.TheVariants as end
 use Rattle.subcommands.specs.declared.end.Exit.{Exit}
@@ -24,8 +28,8 @@ use Rattle.subcommands.specs.declared.end.ErrorLine.{ErrorLine}
 use Rattle.subcommands.specs.declared.end.ErrorLine.TheVariants as error_line
 use Rattle.arguments.specs.declared.words.WordsFault.{WordsFault}
 use Rattle.arguments.specs.declared.words.WordsFault.TheVariants as words
-use Rattle.plan_print.specs.declared.plan.PlanStop.{PlanStop}
-use Rattle.plan_print.specs.declared.plan.PlanStop.TheVariants as stop
+use Rattle.plan_print.specs.declared.plan.BatchFault.{BatchFault}
+use Rattle.plan_print.specs.declared.plan.BatchFault.TheVariants as batch
 
 -- the exit status and the words of an end: 0 for success and help, 1 for a refusal or a bad line, 2
 -- for wrong arguments, 3 for a fault of a file, a device or of memory; the fault of a batch file is
@@ -73,27 +77,29 @@ end_of_store store.Memory = end.Memory
 end_of_store store.Device = end.Storage
 end_of_store store.Full = end.Storage
 
-abbrev pub end_of_plan_stop : PlanStop → End
-end_of_plan_stop (stop.Refused fault) = end.Refused fault
-end_of_plan_stop stop.TooLarge = end.TooLarge
-end_of_plan_stop stop.ReadFailed = end.ReadFailed
-end_of_plan_stop stop.WriteFailed = end.WriteFailed
-end_of_plan_stop stop.Memory = end.Memory
+-- the end of any run whose input, output or memory fails
+abbrev pub end_of_stream : StreamFault → End
+end_of_stream stream.ReadFailed = end.ReadFailed
+end_of_stream stream.WriteFailed = end.WriteFailed
+end_of_stream stream.Memory = end.Memory
 
-abbrev pub end_of_drill_stop : DrillStop → End
-end_of_drill_stop (drill.BadLine line) = end.BadLine line
-end_of_drill_stop drill.Storage = end.Storage
-end_of_drill_stop drill.ReadFailed = end.ReadFailed
-end_of_drill_stop drill.WriteFailed = end.WriteFailed
-end_of_drill_stop drill.Memory = end.Memory
+abbrev pub end_of_plan_stop : RunStop BatchFault → End
+end_of_plan_stop (Own (batch.Refused fault)) = end.Refused fault
+end_of_plan_stop (Own batch.TooLarge) = end.TooLarge
+end_of_plan_stop (Stream fault) = end_of_stream fault
+
+abbrev pub end_of_drill_stop : RunStop DrillFault → End
+end_of_drill_stop (Own (drill.BadLine line)) = end.BadLine line
+end_of_drill_stop (Own drill.Storage) = end.Storage
+end_of_drill_stop (Stream fault) = end_of_stream fault
 
 -- the end of `plan`
-abbrev pub end_of_plan : Result (Unit {0}) PlanStop → End
+abbrev pub end_of_plan : Result (Unit {0}) (RunStop BatchFault) → End
 end_of_plan (Ok u) = end.Done
 end_of_plan (Err stop) = end_of_plan_stop stop
 
 -- the end of `drill`
-abbrev pub end_of_drill : Result (Unit {0}) DrillStop → End
+abbrev pub end_of_drill : Result (Unit {0}) (RunStop DrillFault) → End
 end_of_drill (Ok u) = end.Done
 end_of_drill (Err stop) = end_of_drill_stop stop
 
@@ -117,16 +123,14 @@ end_of_account (account.Refused why) = end.NotReported why
 end_of_account (account.Store fault) = end_of_store fault
 end_of_account account.Write = end.WriteFailed
 
-abbrev pub end_of_feed_stop : FeedStop → End
-end_of_feed_stop feed.BadLine = end.BadCard
-end_of_feed_stop feed.Stale = end.Released
-end_of_feed_stop feed.NoReply = end.NoReply
-end_of_feed_stop feed.ReadFailed = end.ReadFailed
-end_of_feed_stop feed.WriteFailed = end.WriteFailed
-end_of_feed_stop feed.Memory = end.Memory
+abbrev pub end_of_feed_stop : RunStop FeedFault → End
+end_of_feed_stop (Own feed.BadLine) = end.BadCard
+end_of_feed_stop (Own feed.Stale) = end.Released
+end_of_feed_stop (Own feed.NoReply) = end.NoReply
+end_of_feed_stop (Stream fault) = end_of_stream fault
 
 -- the end of `feed`
-abbrev pub end_of_feed : Result (Unit {0}) FeedStop → End
+abbrev pub end_of_feed : Result (Unit {0}) (RunStop FeedFault) → End
 end_of_feed (Ok u) = end.Done
 end_of_feed (Err stop) = end_of_feed_stop stop
 

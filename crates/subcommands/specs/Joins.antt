@@ -77,13 +77,13 @@ commits_pair (Some commits) = number_pair (codes "commits") commits
 abbrev pub refusal_start : ℕ → List ℕ → List ℕ
 refusal_start code cause = codes "refused" ++ number_pair (codes "code") code ++ pair (codes "cause") cause
 
--- the line for tables that aren't those of a schema version
+-- the line for a database whose tables don't match any schema version
 abbrev pub not_ours_line : Cause → List ℕ → List ℕ
 not_ours_line cause path =
     refusal_start 81 (word_of cause) ++ commits_pair (commits_in cause) ++ table_pair (name_in cause)
     ++ quoted_pair (codes "db") path
 
--- the line for rows that don't represent sound contents
+-- the line for a database whose rows don't represent sound contents
 abbrev pub damaged_line : List ℕ → List ℕ → List ℕ
 damaged_line cause path = refusal_start 82 cause ++ quoted_pair (codes "db") path
 

@@ -2,15 +2,16 @@
 use Rattle.std.specs.Prelude.{◌≡◌, ⊤, ℕ, Bool, List, codes, Option, Result}
 use Rattle.store_data.specs.declared.row.Product.{Product}
 use Rattle.text_io.specs.Inputs.{Agrees}
+use Rattle.text_io.specs.declared.stop.RunStop.{RunStop}
 use Rattle.plan_print.specs.PlanEnds.{PlanEnds, PlanEndsWithEvents}
-use Rattle.plan_print.specs.declared.plan.PlanStop.{PlanStop}
+use Rattle.plan_print.specs.declared.plan.BatchFault.{BatchFault}
 use Rattle.over_tables.specs.Drills.{DrillEnds}
-use Rattle.drill.specs.declared.stop.DrillStop.{DrillStop}
+use Rattle.drill.specs.declared.stop.DrillFault.{DrillFault}
 use Rattle.feeding.specs.Feeds.{at_first}
 use Rattle.event_lines.specs.declared.log.EventLog.{EventLog}
 use Rattle.feeding.specs.Events.{FeedEndsWithEvents}
 use Rattle.feeding.specs.Tries.{FeedEnds, Try}
-use Rattle.feeding.specs.declared.engine.FeedStop.{FeedStop}
+use Rattle.feeding.specs.declared.engine.FeedFault.{FeedFault}
 use Rattle.subcommands.specs.Ends.{end_of_drill, end_of_feed, end_of_plan}
 use Rattle.subcommands.specs.declared.end.End.{End}
 use Rattle.subcommands.specs.declared.end.End.TheVariants.{Done, BadLine}
@@ -27,12 +28,12 @@ product_of max low check = record { code = codes "plan"; max = max; low = low; c
 abbrev pub PlanRuns : {E : Type 0} → (E → Option (List ℕ)) → Product → Option (List ℕ) → Option (List ℕ) → Option (List ℕ)
     → EventLog E → EventLog E → End → Type 0
 PlanRuns contents p known before after old new end = (raw : List ℕ) × Agrees known raw
-    × (ended : Result (Unit {0}) PlanStop) × (end ≡ end_of_plan ended)
+    × (ended : Result (Unit {0}) (RunStop BatchFault)) × (end ≡ end_of_plan ended)
     × PlanEndsWithEvents contents p raw before after old new ended
 
 -- a run of `drill` on the input `known` turns the output `before` into `after` and ends with `end`
 abbrev pub DrillRuns : Option (List ℕ) → Option (List ℕ) → Option (List ℕ) → End → Type 0
-DrillRuns known before after end = (ended : Result (Unit {0}) DrillStop)
+DrillRuns known before after end = (ended : Result (Unit {0}) (RunStop DrillFault))
     × (end ≡ end_of_drill ended) × DrillEnds known before after ended
 
 -- a run of `feed` with the options `start` on the input `known`: its tries extend `log_before` to
@@ -42,21 +43,21 @@ abbrev pub FeedRuns : {E : Type 0} → (E → Option (List ℕ)) → FeedStart �
     → Option (List Try) → Option (List Try) → Option (List ℕ) → Option (List ℕ)
     → EventLog E → EventLog E → End → Type 0
 FeedRuns contents start known log_before log_after before after old new end =
-    (ended : Result (Unit {0}) FeedStop) × (end ≡ end_of_feed ended)
+    (ended : Result (Unit {0}) (RunStop FeedFault)) × (end ≡ end_of_feed ended)
     × FeedEndsWithEvents contents (at_first start.machine start.boot start.batch) known
     log_before log_after before after old new ended
 
 -- a run of `plan` as in `PlanRuns`, without its event lines
 abbrev pub Plans : Product → Option (List ℕ) → Option (List ℕ) → Option (List ℕ) → End → Type 0
 Plans p known before after end = (raw : List ℕ) × Agrees known raw
-    × (ended : Result (Unit {0}) PlanStop) × (end ≡ end_of_plan ended)
+    × (ended : Result (Unit {0}) (RunStop BatchFault)) × (end ≡ end_of_plan ended)
     × PlanEnds p raw before after ended
 
 -- a run of `feed` as in `FeedRuns`, without its event lines
 abbrev pub Feeds : FeedStart → Option (List ℕ) → Option (List Try) → Option (List Try)
     → Option (List ℕ) → Option (List ℕ) → End → Type 0
 Feeds start known log_before log_after before after end =
-    (ended : Result (Unit {0}) FeedStop) × (end ≡ end_of_feed ended)
+    (ended : Result (Unit {0}) (RunStop FeedFault)) × (end ≡ end_of_feed ended)
     × FeedEnds (at_first start.machine start.boot start.batch) known
     log_before log_after before after ended
 

@@ -2,19 +2,20 @@
 ghost use Rattle.std.specs.Prelude.{◌≡◌};
 ghost use Rattle.subcommands.specs.Ends.{end_of_account, end_of_drill_stop, end_of_file};
 ghost use Rattle.subcommands.specs.Ends.{end_of_feed_stop, end_of_plan_stop, end_of_serve_stop};
-ghost use Rattle.subcommands.specs.Ends.{end_of_store, end_of_words, exit_of};
+ghost use Rattle.subcommands.specs.Ends.{end_of_store, end_of_stream, end_of_words, exit_of};
 
 use arguments::WordsFault;
 use batch_import::RowFault;
-use drill::DrillStop;
-use feeding::FeedStop;
+use drill::{DrillFault, DrillStop};
+use feeding::{FeedFault, FeedStop};
 use job_facts::{NUMBER_RELEASED, Refusal, StoreFault};
 use over_tables::{DAMAGED, FileFault, NOT_OURS};
-use plan_print::PlanStop;
+use plan_print::{BatchFault, PlanStop};
 use reports::AccountFault;
 use server_run::ServeStop;
 use std::error::Error;
 use std::fmt;
+use text_io::{RunStop, StreamFault};
 
 /// The end of a run.
 #[derive(Clone, Copy, Debug, PartialEq, Eq)]
@@ -64,11 +65,9 @@ impl From<PlanStop> for End {
 
     fn from(stop: PlanStop) -> End {
         match stop {
-            PlanStop::Refused(fault) => End::Refused(fault),
-            PlanStop::TooLarge => End::TooLarge,
-            PlanStop::ReadFailed => End::ReadFailed,
-            PlanStop::WriteFailed => End::WriteFailed,
-            PlanStop::Memory => End::Memory,
+            RunStop::Own(BatchFault::Refused(fault)) => End::Refused(fault),
+            RunStop::Own(BatchFault::TooLarge) => End::TooLarge,
+            RunStop::Stream(fault) => End::from(fault),
         }
     }
 }
@@ -78,11 +77,9 @@ impl From<DrillStop> for End {
 
     fn from(stop: DrillStop) -> End {
         match stop {
-            DrillStop::BadLine(line) => End::BadLine(line),
-            DrillStop::Storage => End::Storage,
-            DrillStop::ReadFailed => End::ReadFailed,
-            DrillStop::WriteFailed => End::WriteFailed,
-            DrillStop::Memory => End::Memory,
+            RunStop::Own(DrillFault::BadLine(line)) => End::BadLine(line),
+            RunStop::Own(DrillFault::Storage) => End::Storage,
+            RunStop::Stream(fault) => End::from(fault),
         }
     }
 }
@@ -141,12 +138,22 @@ impl From<FeedStop> for End {
 
     fn from(stop: FeedStop) -> End {
         match stop {
-            FeedStop::BadLine => End::BadCard,
-            FeedStop::Stale => End::Released,
-            FeedStop::NoReply => End::NoReply,
-            FeedStop::ReadFailed => End::ReadFailed,
-            FeedStop::WriteFailed => End::WriteFailed,
-            FeedStop::Memory => End::Memory,
+            RunStop::Own(FeedFault::BadLine) => End::BadCard,
+            RunStop::Own(FeedFault::Stale) => End::Released,
+            RunStop::Own(FeedFault::NoReply) => End::NoReply,
+            RunStop::Stream(fault) => End::from(fault),
+        }
+    }
+}
+
+impl From<StreamFault> for End {
+    ghost from_gives = { λ fault end. end ≡ end_of_stream fault };
+
+    fn from(fault: StreamFault) -> End {
+        match fault {
+            StreamFault::ReadFailed => End::ReadFailed,
+            StreamFault::WriteFailed => End::WriteFailed,
+            StreamFault::Memory => End::Memory,
         }
     }
 }

@@ -10,14 +10,15 @@ ghost use Rattle.subcommands.specs.declared.end.End.TheVariants.{WriteFailed};
 
 use crate::end::End;
 use arguments::{FeedStart, Words};
-use drill::DrillStop;
+use drill::DrillFault;
 use event_lines::EventLog;
-use feeding::{Exchange, feed_with_events};
+use feeding::{Exchange, MachineStart, feed_with_events};
 use over_tables::drill_engine;
 use plan_print::plan_with_events;
 use std::alloc::Global;
 use std::io::{BufWriter, Read, Write};
 use store_data::{Name, Product};
+use text_io::RunStop;
 
 /// Runs `words`, which must be `plan` or `drill`, from `reader` to `writer`. If the whole text was
 /// printed, it also flushes `writer`. A failed flush counts as a failed write: only a test shows
@@ -73,16 +74,12 @@ pub fn run_feed<R: Read, W: Write, X: Exchange, E: Write + Drop>(
         (X.log exchange.new) (W.contents writer.old) (W.contents writer.new) events.old events.new
         result }
 {
-    match feed_with_events(
-        alloc,
-        start.machine,
-        start.boot,
-        start.batch,
-        reader,
-        writer,
-        exchange,
-        events,
-    ) {
+    let start = MachineStart {
+        machine: start.machine,
+        boot: start.boot,
+        batch: start.batch,
+    };
+    match feed_with_events(alloc, start, reader, writer, exchange, events) {
         Ok(()) => End::Done,
         Err(stop) => End::from(stop),
     }
@@ -120,7 +117,7 @@ fn run_drill<R: Read, W: Write + Drop>(
 {
     match drill_engine(alloc, reader, writer) {
         Ok(()) => flushed(writer, End::Done),
-        Err(DrillStop::BadLine(line)) => flushed(writer, End::BadLine(line)),
+        Err(RunStop::Own(DrillFault::BadLine(line))) => flushed(writer, End::BadLine(line)),
         Err(stop) => End::from(stop),
     }
 }

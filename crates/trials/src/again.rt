@@ -1,11 +1,10 @@
 //! Repeats calls that run out of memory. A test therefore has the same result if any single
 //! allocation fails, even one of its set-up. `bench/run refused` makes each allocation fail in
 //! turn.
-use drill::DrillStop;
 use job_facts::StoreFault;
-use plan_print::PlanStop;
 use reports::AccountFault;
 use server::NextFault;
+use text_io::{RunStop, StreamFault};
 use wire::AskFault;
 
 /// A fault that can be out of memory.
@@ -37,15 +36,9 @@ impl MayBeOutOfMemory for NextFault {
     }
 }
 
-impl MayBeOutOfMemory for DrillStop {
+impl<F> MayBeOutOfMemory for RunStop<F> {
     fn is_memory(&self) -> bool {
-        *self == DrillStop::Memory
-    }
-}
-
-impl MayBeOutOfMemory for PlanStop {
-    fn is_memory(&self) -> bool {
-        *self == PlanStop::Memory
+        matches!(self, RunStop::Stream(StreamFault::Memory))
     }
 }
 

@@ -2,11 +2,12 @@
 use crate::exchanges::name;
 use crate::failing_writers::Limited;
 use event_lines::{EventLog, Level};
-use feeding::{Exchange, FeedStop, feed_with_events};
+use feeding::{Exchange, FeedFault, FeedStop, MachineStart, feed_with_events};
 use std::alloc::{AllocError, Global};
 use std::process::Abort;
 use std::test::Fail;
 use store_data::Name;
+use text_io::{RunStop, StreamFault};
 
 /// A response with a reply to a machine: its status, and the length and the text of its JSON.
 macro_rules! reply {
@@ -111,11 +112,14 @@ fn run(alloc: Global, machine: Name, case: &Case, level: Level, room: usize) -> 
     let mut list = case.list;
     let mut printed = Limited::new(512, 1);
     let mut log = EventLog::new(level, Limited::new(room, 1));
+    let start = MachineStart {
+        machine,
+        boot: 1,
+        batch: machine,
+    };
     let end = feed_with_events(
         alloc,
-        machine,
-        1,
-        machine,
+        start,
         &mut list,
         &mut printed,
         &mut exchange,
@@ -143,7 +147,7 @@ struct Log<'a> {
 fn check_at(rt: &impl Abort, alloc: Global, machine: Name, case: &Case, log: &Log<'_>) {
     let level = log.level;
     let mut feed = run(alloc, machine, case, level, log.room);
-    if feed.end != Err(FeedStop::Memory) {
+    if feed.end != Err(RunStop::Stream(StreamFault::Memory)) {
         assert_eq!(rt; feed.end, case.end, "at {level:?}");
         assert_eq!(rt; feed.printed.taken(), case.printed, "at {level:?}");
     }
@@ -201,7 +205,7 @@ fn each_kind_of_event_line_is_written(rt: HostRuntime) -> Result<(), Fail> {
         Case {
             list: b"1000\n1001\nx",
             replies: &[RELEASED, RESET, BLANK_USED, NUMBER_REUSED],
-            end: Err(FeedStop::BadLine),
+            end: Err(RunStop::Own(FeedFault::BadLine)),
             printed: b"1000 rejected\n1001 rejected\n",
             events: b"rejected serial=1000 number=10000003 code=60 name=blank-used\nrejected serial=1001 number=10000004 code=72 name=number-reused\nboot-used number=10000004\nbad-line line=3 cause=serial\n",
         },

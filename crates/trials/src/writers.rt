@@ -10,6 +10,7 @@ use reports::close_report;
 use std::alloc::Global;
 use std::io::Cursor;
 use std::test::Fail;
+use text_io::{RunStop, StreamFault};
 
 const SCRIPT: &[u8] = b"office 1 {\"do\":\"reset\"}\n";
 
@@ -21,7 +22,7 @@ fn drilled(alloc: Global) -> Result<Limited, DrillStop> {
     let mut writer = Limited::new(512, 1);
     drill_over_lists(alloc, &mut Cursor::new(SCRIPT), &mut writer)?;
     if writer.taken().starts_with(b"503 ") {
-        return Err(DrillStop::Memory);
+        return Err(RunStop::Stream(StreamFault::Memory));
     }
     Ok(writer)
 }

@@ -1,7 +1,8 @@
 //! Checks the output of drills.
-use drill::{DrillStop, drill_over_lists};
+use drill::{DrillFault, drill_over_lists};
 use over_tables::drill_engine;
 use std::alloc::{AllocError, Global};
+use text_io::RunStop;
 use worked_exchanges::Scripted;
 use worked_files::{Case, CaseFault, Line, check_bytes};
 
@@ -20,7 +21,7 @@ pub fn check_script(alloc: Global, case: &Case) -> Result<(), CaseFault> {
     let mut printed = Vec::new(alloc);
     match drill_engine(alloc, &mut input, &mut printed) {
         Ok(()) => {}
-        Err(DrillStop::BadLine(line)) => {
+        Err(RunStop::Own(DrillFault::BadLine(line))) => {
             let stop = format!(in alloc; "bad line {line}\n")?;
             printed.extend_from_slice(stop.as_bytes())?;
         }

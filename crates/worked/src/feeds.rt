@@ -1,9 +1,10 @@
 //! Checks the output of feeds.
-use feeding::{Exchange, FeedStop, feed_engine};
+use feeding::{Exchange, FeedFault, MachineStart, feed_engine};
 use list_store::ListStore;
 use server::{MemoryReader, serve_one};
 use std::alloc::{AllocError, Global};
 use store_data::Name;
+use text_io::RunStop;
 use worked_files::{Case, CaseFault, Line, check_bytes, post};
 
 /// The requests before a feed for `set-up`.
@@ -216,21 +217,18 @@ fn fed(
     if boot < 1 || boot > 9_999_999_999 {
         return Ok(printed);
     }
-    let end = feed_engine(
-        alloc,
+    let start = MachineStart {
         machine,
         boot,
         batch,
-        &mut cards,
-        &mut printed,
-        server,
-    );
+    };
+    let end = feed_engine(alloc, start, &mut cards, &mut printed, server);
     let last_line = match end {
         Ok(()) => "",
-        Err(FeedStop::BadLine) => "refused 400\n",
-        Err(FeedStop::Stale) => "refused 73\n",
-        Err(FeedStop::NoReply) => "device\n",
-        Err(_) => return Err(CaseFault::Memory),
+        Err(RunStop::Own(FeedFault::BadLine)) => "refused 400\n",
+        Err(RunStop::Own(FeedFault::Stale)) => "refused 73\n",
+        Err(RunStop::Own(FeedFault::NoReply)) => "device\n",
+        Err(RunStop::Stream(_)) => return Err(CaseFault::Memory),
     };
     printed.extend_from_slice(last_line.as_bytes())?;
     Ok(printed)

@@ -6,9 +6,10 @@ use crate::fault::{CaseFault, check_bytes};
 use crate::text::{Case, Line, put_bytes};
 use crate::walks::text_of;
 use batch_import::{ImportFault, RowFault, check_batch, read_batch, rows};
-use plan_print::{PlanStop, plan_engine};
+use plan_print::{BatchFault, plan_engine};
 use std::alloc::{AllocError, Global};
 use store_data::{Name, Product, Row, grouped};
+use text_io::RunStop;
 
 /// The largest number of commands, and the largest file, for which a machine also makes the cards.
 const MOST_COMMANDS: usize = 300;
@@ -186,11 +187,9 @@ fn plan_text(alloc: Global, product: &Product, raw: &[u8]) -> Result<String, Cas
     let mut written = Vec::new(alloc);
     match plan_engine(alloc, product, &mut input, &mut written) {
         Ok(()) => Ok(String::from_utf8_lossy(alloc, written.as_slice())?),
-        Err(PlanStop::Refused(fault)) => Ok(refused(alloc, fault)?),
-        Err(PlanStop::TooLarge) => Ok(String::from_str(alloc, "refused 413\n")?),
-        Err(PlanStop::ReadFailed | PlanStop::WriteFailed | PlanStop::Memory) => {
-            Err(CaseFault::Memory)
-        }
+        Err(RunStop::Own(BatchFault::Refused(fault))) => Ok(refused(alloc, fault)?),
+        Err(RunStop::Own(BatchFault::TooLarge)) => Ok(String::from_str(alloc, "refused 413\n")?),
+        Err(RunStop::Stream(_)) => Err(CaseFault::Memory),
     }
 }
 
