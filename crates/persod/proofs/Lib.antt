@@ -1,2 +1,1 @@
-mod Keeping
 mod Obeying

@@ -1,5 +1,6 @@
--- Lemmas: from the end of a task or of a run over streams to the end of the subcommand.
-use Rattle.std.proofs.Common.{◌≡◌, ◌∙◌, ap, inl, inr, refl, subst, sym, ℕ, Bool, List, Option, Result, Ok, Err, IfOk, IfErr, None}
+-- Lemmas: from the end of `serve`, of `report` or of a run over streams to the end of the
+-- subcommand.
+use Rattle.std.proofs.Common.{◌≡◌, ◌∙◌, ap, refl, subst, sym, ℕ, Bool, List, Option, None}
 use Rattle.std.specs.Prelude.{String, string_bytes}
 use Rattle.std.specs.Global.{Global}
 use Rattle.sqlite.specs.Recovery.{Image}
@@ -8,29 +9,16 @@ use Rattle.arguments.specs.declared.words.Words.{Words}
 use Rattle.arguments.specs.declared.words.Words.TheVariants as words
 use Rattle.event_lines.specs.declared.level.Level.{Level}
 use Rattle.event_lines.specs.declared.log.EventLog.{EventLog}
-use Rattle.job_facts.specs.Store.{State}
-use Rattle.job_facts.specs.declared.store.StoreFault.{StoreFault}
-use Rattle.over_tables.specs.declared.fault.FileFault.{FileFault}
 use Rattle.over_tables.specs.declared.opening.Wanted.{Wanted}
 use Rattle.over_tables.specs.declared.opening.Wanted.TheVariants.{Any, Ours}
-use Rattle.store_files.specs.Files.{IsNotTaken, MayHaveCommits, OverFiles, RunsOver}
-use Rattle.store_files.specs.declared.file.FileState.{FileState}
 use Rattle.subcommands.specs.Joins.{wanted_of}
 use Rattle.subcommands.specs.Runs.{Runs, product_of}
 use Rattle.subcommands.specs.declared.end.End.{End}
 use Rattle.subcommands.proofs.RunLemmas.{plans_of}
-use Rattle.persod.specs.Tasks.{EndsOver, Obeys, ReportsOver, ServesOver, end_of_taken}
-use Rattle.persod.specs.declared.tasks.ReportTask.{ReportTask}
-use Rattle.persod.specs.declared.tasks.ServeTask.{ServeTask}
-
--- A task ran, or the file was refused.
-pub ends_over :
-    {D : Type 0} (g : Ghosts D) (image : Image) (IsFresh : Bool → D → Type 0) (wanted : Wanted) (Ran : FileState → State → ((State → Type 0 → (StoreFault → Type 0) → Type 0) → Type 0) → End → Type 0) (taken : Result End FileFault) (end : End)
-    → end ≡ end_of_taken taken → IfOk taken (λ done. OverFiles g image (λ conn. RunsOver conn (MayHaveCommits image) wanted Ran done)) → IfErr taken (IsNotTaken g image IsFresh wanted)
-    → EndsOver g image IsFresh wanted Ran end
-ends_over g image IsFresh wanted Ran (Ok ended) end is ran refused =
-    record { how = inl (subst (λ (e : End). OverFiles g image (λ conn. RunsOver conn (MayHaveCommits image) wanted Ran e)) (sym is) ran) }
-ends_over g image IsFresh wanted Ran (Err fault) end is ran refused = record { how = inr (fault, is, refused) }
+use Rattle.file_tasks.specs.Tasks.{ReportsOver, ServesOver}
+use Rattle.file_tasks.specs.declared.tasks.ReportTask.{ReportTask}
+use Rattle.file_tasks.specs.declared.tasks.ServeTask.{ServeTask}
+use Rattle.persod.specs.Runs.{Obeys}
 
 module _ {D : Type 0} {g : Ghosts D} {image : Image} {IsFresh : Bool → D → Type 0} where
   pub obeys_serve : (task : ServeTask) (w : Words) (db : String Global) (wanted : Wanted) (end : End) → w ≡ words.Serve db task.port task.turns → wanted ≡ wanted_of w → task.path.now ≡ string_bytes db

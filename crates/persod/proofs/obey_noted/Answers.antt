@@ -1,5 +1,5 @@
 use Rattle.sqlite.specs.WalFiles.{image_at}
-use Rattle.persod.specs.declared.tasks.ServeTask.{ServeTask}
+use Rattle.file_tasks.specs.declared.tasks.ServeTask.{ServeTask}
 use Rattle.persod.proofs.Obeying.{obeys_report, obeys_serve, obeys_streams}
 use Rattle.persod.proofs.obey_noted.Goals as goal
 

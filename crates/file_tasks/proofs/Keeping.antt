@@ -21,9 +21,9 @@ use Rattle.store_files.specs.Wal.{IsWholeWal}
 use Rattle.store_files.specs.declared.file.FileState.{FileState}
 use Rattle.file_runs.specs.Files.{FindRuns, LeaveRuns, RefuseRuns}
 use Rattle.subcommands.specs.declared.end.End.{End}
-use Rattle.persod.specs.Tasks.{EndsOver, IsNotRun, KeepsFiles, KeepsOver, KeepsReported, KeepsRuns, LacksPort, RefusesRuns, ReportsBatch, ReportsOver, Serves, ServesFile, ServesOver, exchanges_of}
-use Rattle.persod.specs.declared.tasks.ReportTask.{ReportTask}
-use Rattle.persod.specs.declared.tasks.ServeTask.{ServeTask}
+use Rattle.file_tasks.specs.Tasks.{EndsOver, IsNotRun, KeepsFiles, KeepsOver, KeepsReported, KeepsRuns, LacksPort, RefusesRuns, ReportsBatch, ReportsOver, Serves, ServesFile, ServesOver, exchanges_of}
+use Rattle.file_tasks.specs.declared.tasks.ReportTask.{ReportTask}
+use Rattle.file_tasks.specs.declared.tasks.ServeTask.{ServeTask}
 
 module _ {D : Type 0} {g : Ghosts D} (turns : AreLeftInTurn (stands_for {S = FileStore D g} over_files)) (find : FindRuns g) (leave : LeaveRuns g) (refuse : RefuseRuns g) (image : Image) (IsFresh : Bool → D → Type 0) (wanted : Wanted)
     (end : End) where

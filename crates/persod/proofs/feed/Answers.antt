@@ -1,6 +1,6 @@
 use Rattle.std.proofs.Common.{None}
 use Rattle.subcommands.proofs.RunLemmas.{feeds_of}
-use Rattle.persod.proofs.tasks.feed.Goals as goal
+use Rattle.persod.proofs.feed.Goals as goal
 
 pub returns-clause-runs : goal.returns-clause-runs
 returns-clause-runs g c = c.run_feed.ensures

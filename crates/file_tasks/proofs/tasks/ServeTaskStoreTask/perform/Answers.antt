@@ -17,9 +17,9 @@ use Rattle.store_files.specs.declared.file.FileState.{FileState}
 use Rattle.subcommands.specs.Joins.{end_of_close}
 use Rattle.subcommands.specs.Unstarted.{unstarted_line}
 use Rattle.subcommands.specs.declared.end.End.{End}
-use Rattle.persod.specs.Tasks.{IsOpening, ServesFile, end_of_serve}
-use Rattle.persod.specs.declared.tasks.ServeTask.{ServeTask}
-use Rattle.persod.proofs.tasks.ServeTaskStoreTask.perform.Goals as goal
+use Rattle.file_tasks.specs.Tasks.{IsOpening, ServesFile, end_of_serve}
+use Rattle.file_tasks.specs.declared.tasks.ServeTask.{ServeTask}
+use Rattle.file_tasks.proofs.tasks.ServeTaskStoreTask.perform.Goals as goal
 
 -- The contract of a server over tables gives the result of the task, which has the same port and
 -- the same level of event lines.

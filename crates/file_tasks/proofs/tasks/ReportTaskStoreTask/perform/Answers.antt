@@ -1,8 +1,8 @@
 use Rattle.std.proofs.Common.{◌≡◌, ◌∙◌, ap, sym, subst}
 use Rattle.subcommands.specs.Joins.{end_of_close}
-use Rattle.persod.specs.Tasks.{end_of_report}
-use Rattle.persod.proofs.tasks.ReportTaskStoreTask.perform.Goals as goal
-use Rattle.persod.proofs.tasks.ReportTaskStoreTask.perform.Goals.{in-Ok, in-Err}
+use Rattle.file_tasks.specs.Tasks.{end_of_report}
+use Rattle.file_tasks.proofs.tasks.ReportTaskStoreTask.perform.Goals as goal
+use Rattle.file_tasks.proofs.tasks.ReportTaskStoreTask.perform.Goals.{in-Ok, in-Err}
 
 pub returns : goal.returns
 returns g c =

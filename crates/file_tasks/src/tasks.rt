@@ -1,12 +1,8 @@
-//! The tasks of `persod` over the store in a database file, and its simulated machine.
-ghost use Rattle.std.specs.Prelude.{None};
-ghost use Rattle.arguments.specs.Words.{IsBoot};
-ghost use Rattle.subcommands.specs.Runs.{FeedRuns, Feeds};
+//! The tasks over the store in a database file: a server, and a report.
 
-use arguments::FeedStart;
 use event_lines::{EventLog, Level};
 use job_facts::ServerStore;
-use loopback::{Loopback, Port};
+use loopback::Loopback;
 use over_tables::serve_over_tables;
 use reports::close_report;
 use schema::SqlStore;
@@ -14,10 +10,10 @@ use server_run::Opened;
 use sqlite::FileStore;
 use sqlite_disk::Disk;
 use std::alloc::Global;
-use std::io::{self, Write};
+use std::io;
 use store_data::Name;
 use store_files::{FileState, StoreTask};
-use subcommands::{End, end_of_close, note_unstarted, run_feed};
+use subcommands::{End, end_of_close, note_unstarted};
 
 /// A size in bytes just under 32 MiB, with space for the headers of glibc and of the allocator. If
 /// a larger block is freed, glibc doesn't adapt to its size.
@@ -47,7 +43,7 @@ pub struct ServeTask<'a> {
 }
 
 impl StoreTask for ServeTask<'_> {
-    ghost use Rattle.persod.specs.Tasks.{Serves};
+    ghost use Rattle.file_tasks.specs.Tasks.{Serves};
 
     type Done = End;
 
@@ -102,7 +98,7 @@ pub struct ReportTask<'a> {
 }
 
 impl StoreTask for ReportTask<'_> {
-    ghost use Rattle.persod.specs.Tasks.{ReportsBatch};
+    ghost use Rattle.file_tasks.specs.Tasks.{ReportsBatch};
 
     type Done = End;
 
@@ -117,29 +113,4 @@ impl StoreTask for ReportTask<'_> {
         };
         end_of_close(end, store.finish())
     }
-}
-
-/// Simulates a machine that gets its cards from standard input, and sends its requests to the
-/// server on the port `port` of 127.0.0.1. Standard output isn't buffered, so a machine that loses
-/// power has already printed its cards.
-pub fn feed<E: Write + Drop>(
-    rt: &HostRuntime,
-    port: u16,
-    start: FeedStart,
-    events: &mut EventLog<E>,
-) -> End
-    requires { IsBoot start.boot }
-    ensures runs { FeedRuns E.contents start None None None None None events.old events.new
-        result }
-    ensures feeds { Feeds start None None None None None result }
-{
-    let mut exchange = Port::new(rt, rt.alloc(), port);
-    run_feed(
-        rt.alloc(),
-        start,
-        &mut rt.reader(),
-        &mut io::writer(rt),
-        &mut exchange,
-        events,
-    )
 }

@@ -1,5 +1,5 @@
-use Rattle.persod.proofs.Keeping.{serves_over}
-use Rattle.persod.proofs.serve.Goals as goal
+use Rattle.file_tasks.proofs.Keeping.{serves_over}
+use Rattle.file_tasks.proofs.running.serve.Goals as goal
 
 pub returns : goal.returns
 returns g c =

@@ -1,7 +1,7 @@
 -- The results of the tasks over the store in a database file (this project's profile). The bytes of
 -- the process's own streams are unknown.
 use Rattle.std.proofs.Common.{inl, inr}
-use Rattle.std.specs.Prelude.{◌≡◌, ◌⊎◌, ℕ, Bool, List, [], ◌∷◌, ◌++◌, false, length, None, IfErr, OnOk, Result, Ok, Err, ⊤, string_bytes}
+use Rattle.std.specs.Prelude.{◌≡◌, ◌⊎◌, Bool, List, [], ◌∷◌, ◌++◌, false, length, None, IfErr, OnOk, Result, Ok, Err, ⊤}
 use Rattle.std.specs.declared.io.ErrorKind.{ErrorKind}
 use Rattle.sqlite.specs.Files.{file_state, over_files}
 use Rattle.sqlite.specs.Held.{Held}
@@ -9,12 +9,7 @@ use Rattle.sqlite.specs.Recovery.{Image}
 use Rattle.sqlite.specs.State.{HasCleanDisk}
 use Rattle.sqlite.specs.declared.FileStore.{FileStore}
 use Rattle.sqlite_disk.specs.declared.Disk.{Ghosts}
-use Rattle.arguments.specs.Words.{InRange}
-use Rattle.arguments.specs.declared.words.Words.{Words}
-use Rattle.arguments.specs.declared.words.Words.TheVariants as words
-use Rattle.arguments.specs.declared.words.WordsFault.{WordsFault}
 use Rattle.event_lines.specs.Notes.{NotesAll}
-use Rattle.event_lines.specs.declared.level.Level.{Level}
 use Rattle.job_facts.specs.declared.refusal.Refusal.TheVariants.{BatchUnknown}
 use Rattle.job_facts.specs.declared.store.StoreFault.{StoreFault}
 use Rattle.job_facts.specs.Contents.{AreSound, Contents}
@@ -34,19 +29,17 @@ use Rattle.over_tables.specs.Opens.{IsOpenedWith}
 use Rattle.over_tables.specs.Refusals.{IsRefused}
 use Rattle.over_tables.specs.declared.fault.FileFault.{FileFault}
 use Rattle.over_tables.specs.declared.opening.Wanted.{Wanted}
-use Rattle.over_tables.specs.declared.opening.Wanted.TheVariants.{Any, Ours}
 use Rattle.store_files.specs.Files.{IsAbsent, IsNotBegun, IsNotTaken, MayHaveCommits, OverFiles, RunsOver}
 use Rattle.store_files.specs.declared.file.FileState.{FileState}
 use Rattle.file_runs.specs.Files.{HoldRuns, IsLeftBy, IsLeftByCrash}
 use Rattle.file_runs.specs.Runs.{StartsAfterRuns}
-use Rattle.subcommands.specs.Ends.{end_of_account, end_of_file, end_of_serve_stop, end_of_words, exit_of}
+use Rattle.subcommands.specs.Ends.{end_of_account, end_of_file, end_of_serve_stop}
 use Rattle.subcommands.specs.Joins.{end_of_close}
-use Rattle.subcommands.specs.Runs.{DrillRuns, Feeds, Plans, product_of}
 use Rattle.subcommands.specs.Unstarted.{end_of_port, unstarted_line}
 use Rattle.subcommands.specs.declared.end.End.{End}
 use Rattle.subcommands.specs.declared.end.End.TheVariants.{Done}
-use Rattle.persod.specs.declared.tasks.ReportTask.{ReportTask}
-use Rattle.persod.specs.declared.tasks.ServeTask.{ServeTask}
+use Rattle.file_tasks.specs.declared.tasks.ReportTask.{ReportTask}
+use Rattle.file_tasks.specs.declared.tasks.ServeTask.{ServeTask}
 
 -- The run ends with `last`, or with the fault if the store can't be closed. If it is closed,
 -- `whole` is true: the database file is complete. Otherwise `Unclosed` is true of the fault.
@@ -169,26 +162,3 @@ module _ {D : Type 0} (g : Ghosts D) (image : Image) (IsFresh : Bool → D → T
 
   abbrev pub ReportsOver : ReportTask → End → Type 0
   ReportsOver task end = KeepsOver (KeepsReported image wanted task end) end
-
--- ---- a run of the program
-
-module _ {D : Type 0} (g : Ghosts D) (image : Image) (IsFresh : Bool → D → Type 0) where
-  -- the end of a run of the given subcommand, with the event lines of `level`; only `serve` creates
-  -- a database file
-  abbrev pub Obeys : Level → Words → End → Type 0
-  Obeys level (words.Serve db port turns) end =
-      (task : ServeTask) × (task.path.now ≡ string_bytes db) × (task.port ≡ port) × (task.turns ≡ turns) × (task.level ≡ level) × ServesOver g image IsFresh Any task end
-  Obeys level (words.Report db batch) end = (task : ReportTask) × (task.batch ≡ batch) × ReportsOver g image IsFresh Ours task end
-  Obeys level (words.Feed port start) end = Feeds start None None None None None end
-  Obeys level (words.Plan max low check) end = Plans (product_of max low check) None None None end
-  Obeys level words.Drill end = DrillRuns None None None end
-
-  -- The arguments are a subcommand that was run, or `end` is the end for their fault.
-  abbrev pub EndsRun : End → Type 0
-  EndsRun end =
-      ((level : Level) × (w : Words) × InRange w × Obeys level w end)
-      ⊎ ((fault : WordsFault) × (is_written : Bool) × (end ≡ end_of_words fault is_written))
-
-  -- `status` is the exit status of a run.
-  abbrev pub Exits : ℕ → Type 0
-  Exits status = (end : End) × EndsRun end × (status ≡ (exit_of end).status)
