@@ -28,6 +28,10 @@ mod stops;
 #[cfg(test)]
 mod versions;
 
+// The highest numbers.
+#[cfg(test)]
+mod highest;
+
 // The steps of a statement.
 #[cfg(test)]
 mod lots;

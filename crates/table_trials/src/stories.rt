@@ -18,7 +18,8 @@ pub(crate) struct Story {
     pub(crate) blanks: [u64; 6],
 }
 
-const ONE_ROW: &str = "record,aid,rank,enc,tol,dgi\nR1,F00000000101,1,0,0,0101027000\n";
+/// A batch file with one record and one grouping.
+pub(crate) const ONE_ROW: &str = "record,aid,rank,enc,tol,dgi\nR1,F00000000101,1,0,0,0101027000\n";
 
 /// The set-up: product P1, lot L1 of three blanks from serial 1000, and batch B1 with one record
 /// and one grouping.
