@@ -28,8 +28,8 @@ module _ {D : Type 0} (g : Ghosts D) (image : Image) where
   sized : (book : Book) (size : Option ℕ) (held : Files D) → InFiles g image (λ db. IsFound db book) held → InFiles g image (λ db. IsFound db (record book { size = size })) held
   sized book size held found clean =
       let in_files = found clean in
-      let is = in_files.3 in
-      (in_files.0, in_files.1, in_files.2, record { rows = is.rows; held = is.held; sorted = is.sorted; verdict = is.verdict; tables = is.tables })
+      let is = in_files.4 in
+      (in_files.0, in_files.1, in_files.2, in_files.3, record { rows = is.rows; held = is.held; sorted = is.sorted; verdict = is.verdict; tables = is.tables })
 
   -- The printed book has the rows that were read, and the size that was asked for afterwards.
   pub printed_book : (w : BookWords) (before after : Option (List ℕ)) (printed : Printed) (read : Result Book FileFault) (files : Option (Files D)) (first : Book) (size : Option ℕ) → read ≡ Ok first

@@ -24,7 +24,7 @@ use Rattle.sqlite_trees.proofs.Doubt.{no_doubt}
 use Rattle.over_tables.specs.Refusals.{Explains}
 use Rattle.over_tables.specs.declared.fault.FileFault.{FileFault}
 use Rattle.over_tables.specs.declared.fault.FileFault.TheVariants.{Storage}
-use Rattle.store_files.specs.Wal.{opens_none}
+use Rattle.store_files.specs.Wal.{IsWholeWal, opens_none}
 use Rattle.book_file.specs.Files.{FailsToOpen, HoldNow, InFiles, IsIn, IsReadOf, IsSaidOf, IsUnread}
 use Rattle.book_file.specs.Found.{IsFound}
 use Rattle.book_file.specs.Left.{IsLeft, IsLog, WereClosed, unguarded}
@@ -72,14 +72,14 @@ module _ {D : Type 0} {g : disk.Ghosts D} (stays : (file : D) → g.may_leave fi
 -- ---- the result for the database that the files held
 
 module _ {D : Type 0} {g : disk.Ghosts D} (image : Image) (conn : Held (FileStore D g)) (opened : HasCleanDisk (file_state conn) → IsOpened conn) (found : HasCleanDisk (file_state conn) → IsIn image (file_state conn).now)
-    (left : Files D) where
+    (whole : HasCleanDisk (file_state conn) → IsWholeWal image) (left : Files D) where
   pub book_in_files : (read : Result Book FileFault) → (AreClean g left.log left.db → IsReadOf conn read left) → IfOk read (λ book. InFiles g image (λ db. IsFound db book) left)
-  book_in_files (Ok book) is = λ clean. let of = is clean in ((file_state conn).now, found of.was_clean, of.kept (opened of.was_clean), of.found)
+  book_in_files (Ok book) is = λ clean. let of = is clean in ((file_state conn).now, found of.was_clean, whole of.was_clean, of.kept (opened of.was_clean), of.found)
   book_in_files (Err fault) is = tt
 
   pub fault_in_files : (read : Result Book FileFault) → (AreClean g left.log left.db → IsReadOf conn read left) → IfErr read (λ fault. InFiles g image (λ db. Explains db fault) left)
   fault_in_files (Ok book) is = tt
-  fault_in_files (Err fault) is = λ clean. let of = is clean in ((file_state conn).now, found of.was_clean, of.kept (opened of.was_clean), of.why)
+  fault_in_files (Err fault) is = λ clean. let of = is clean in ((file_state conn).now, found of.was_clean, whole of.was_clean, of.kept (opened of.was_clean), of.why)
 
 -- ---- the returned files
 
@@ -109,7 +109,7 @@ module _ {D S C A : Type 0} {d : disk.Ghosts D} {s : start.Ghosts S} (g : disk.G
   pub unread_in_files : WereClosed g files → IfErr read (λ fault. InFiles d (image_at s) (λ db. Explains db fault) (unguarded files)) → IfErr answer.0 (λ fault. IsUnread g IsFresh fault answer.1)
   unread_in_files closed value =
       refused_with answer read (unguarded files) Storage (IsLog files.db) same (λ fault back. IsUnread g IsFresh fault back)
-      (weaker (λ fault. InFiles d (image_at s) (λ db. Explains db fault) (unguarded files)) (λ fault. IsUnread g IsFresh fault (Some (unguarded files))) read (λ fault h. inr h) value)
+      (weaker (λ fault. InFiles d (image_at s) (λ db. Explains db fault) (unguarded files)) (λ fault. IsUnread g IsFresh fault (Some (unguarded files))) read (λ fault h. inr (inr h)) value)
       (λ log. inr (refl, (files, log, inl closed)))
 
   -- no database was opened in the files

@@ -11,10 +11,11 @@ use Rattle.sqlite.specs.Recovery.{Image}
 use Rattle.sqlite.specs.State.{HasCleanDisk}
 use Rattle.sqlite.specs.Tree.{Trees}
 use Rattle.sqlite.specs.WalFiles.{image_at, outcomes}
-use Rattle.sqlite.specs.WalReads.{AreClean}
+use Rattle.sqlite.specs.WalReads.{AreClean, OnlyReads}
 use Rattle.sqlite.specs.declared.FileStore.{FileStore}
 use Rattle.sqlite.specs.declared.error.Error.{Error}
 use Rattle.sqlite.specs.declared.file.Leftover.{Leftover}
+use Rattle.sqlite_disk.specs.Disk.{Only}
 use Rattle.sqlite_disk.specs.declared.Disk as disk
 use Rattle.sqlite_disk.specs.declared.Files.{Files}
 use Rattle.sqlite_disk.specs.declared.Start as start
@@ -24,10 +25,10 @@ use Rattle.over_tables.specs.declared.cause.Cause.TheVariants.{NoFile, Tables}
 use Rattle.over_tables.specs.declared.fault.FileFault.{FileFault}
 use Rattle.over_tables.specs.declared.fault.FileFault.TheVariants.{NotOurs, Storage}
 use Rattle.store_files.specs.Unopened.{of_opening}
-use Rattle.store_files.specs.Wal.{IsOfLook}
+use Rattle.store_files.specs.Wal.{IsOfLook, IsWholeWal, RefusesWal}
 use Rattle.store_files.specs.declared.place.Place.{Place}
 use Rattle.book_file.specs.Found.{IsFound}
-use Rattle.book_file.specs.Left.{IsLog, KeepsDatabase, WasToBeWritten, WereClosed, file_of, unguarded}
+use Rattle.book_file.specs.Left.{IsLog, KeepsDatabase, WasToBeWritten, WereClosed, unguarded}
 use Rattle.book_file.specs.declared.book.Book.{Book}
 use Rattle.book_file.specs.declared.guarded.Guarded.{Guarded}
 
@@ -45,10 +46,10 @@ pub record IsIn (image : Image) (db : Database) : Type 0 where
 abbrev pub HoldNow : {D : Type 0} → disk.Ghosts D → Trees → Files D → Type 0
 HoldNow g trees files = KeepsDatabase (image_of g files) (outcomes g files.log files.db) trees
 
--- If the two returned files have returned what was written, `P` is true of the database that they
--- held when they were opened, and they still hold it.
+-- If the two returned files have returned what was written, their WAL wasn't damaged when they were
+-- opened, `P` is true of the database that they held then, and they still hold it.
 abbrev pub InFiles : {D : Type 0} → disk.Ghosts D → Image → (Database → Type 0) → Files D → Type 0
-InFiles g image P files = AreClean g files.log files.db → (db : Database) × IsIn image db × HoldNow g db.trees files × P db
+InFiles g image P files = AreClean g files.log files.db → (db : Database) × IsIn image db × IsWholeWal image × HoldNow g db.trees files × P db
 
 -- `read` is a correct result for the database of the connection, and the files `left` still hold
 -- this database.
@@ -58,6 +59,15 @@ pub record IsReadOf {D : Type 0} {g : disk.Ghosts D} (conn : Held (FileStore D g
   pub why : IfErr read (Explains (file_state conn).now)
   pub kept : IsOpened conn → HoldNow g (file_state conn).now.trees left
 
+-- The two files were just opened and only read since. They have the bytes `image`, and a crash leaves
+-- the database file as it is.
+pub record AreOnlyRead {D : Type 0} (g : disk.Ghosts D) (IsFresh : Bool → D → Type 0) (image : Image) (files : Files D) : Type 0 where
+  pub first : Files D
+  pub fresh : IsFresh true first.log × IsFresh false first.db
+  pub read : OnlyReads g first.log files.log × OnlyReads g first.db files.db
+  pub bytes : image_of g files ≡ image
+  pub left : Only image.db (g.may_leave files.db)
+
 -- ---- the reasons why there is no book
 
 -- the refusal of a file without tables
@@ -65,8 +75,8 @@ abbrev pub empty : FileFault
 empty = NotOurs (Tables Empty)
 
 -- The fault was found before SQLite was called: nothing has the path, the file is empty, the two
--- files can't be opened, which includes a failed allocation, or the WAL is damaged or couldn't be
--- examined.
+-- files can't be opened, which includes a failed allocation, or the WAL of an empty file is damaged
+-- or couldn't be examined.
 abbrev pub IsOfPath : FileFault → Type 0
 IsOfPath fault = (fault ≡ NotOurs NoFile) ⊎ ((fault ≡ empty) ⊎ IsOfLook fault)
 
@@ -78,15 +88,20 @@ IsSaidOf error last fault =
     ⊎ (WasToBeWritten last.db × (fault ≡ empty))
 
 module _ {D S : Type 0} {d : disk.Ghosts D} {s : start.Ghosts S} (g : disk.Ghosts (Guarded D S d s)) (IsFresh : Bool → D → Type 0) where
-  -- SQLite gets two files that were just opened, opens no database in them because of `error`, and
-  -- leaves the files `last`.
+  -- SQLite gets two files that were just opened and only read since, opens no database in them
+  -- because of `error`, and leaves the files `last`.
   pub record FailsToOpen (error : Error) (last : Files (Guarded D S d s)) : Type 0 where
     pub named : IsTrue (is_open_error error)
-    pub first : Files (Guarded D S d s)
-    pub fresh : IsFresh true (file_of first.log) × IsFresh false (file_of first.db)
+    pub given : Files (Guarded D S d s)
+    pub opened : AreOnlyRead d IsFresh (image_at s) (unguarded given)
     pub left : Leftover (Guarded D S d s) g
     pub last_is : (last.log, last.db) ≡ files_left left
-    pub failed : IsCleanLeft left → FailsToOpenFiles first left error × LeavesFiles first left
+    pub failed : IsCleanLeft left → FailsToOpenFiles given left error × LeavesFiles given left
+
+  -- The WAL of the two files is damaged, or it couldn't be examined. SQLite wasn't called with the
+  -- files.
+  abbrev pub IsDamaged : FileFault → Files D → Type 0
+  IsDamaged fault files = RefusesWal (AreClean d files.log files.db) s.db s.log fault
 
   -- SQLite opens no database in the files, and the fault says why.
   abbrev pub IsUnopened : FileFault → Files D → Type 0
@@ -98,7 +113,8 @@ module _ {D S : Type 0} {d : disk.Ghosts D} {s : start.Ghosts S} (g : disk.Ghost
 
   -- The fault says why there is no book. If no files are returned, the fault was found before
   -- SQLite was called, or SQLite has swapped the two files. Otherwise SQLite opens no database in
-  -- the returned files, or the fault describes their database.
+  -- the returned files, their WAL is damaged or couldn't be examined, or the fault describes their
+  -- database.
   abbrev pub IsUnread : FileFault → Option (Files D) → Type 0
   IsUnread fault None = IsOfPath fault ⊎ ((fault ≡ Storage) × HasSwapped)
-  IsUnread fault (Some files) = IsUnopened fault files ⊎ InFiles d (image_at s) (λ db. Explains db fault) files
+  IsUnread fault (Some files) = IsUnopened fault files ⊎ (IsDamaged fault files ⊎ InFiles d (image_at s) (λ db. Explains db fault) files)

@@ -34,7 +34,7 @@ pub record IsFound (db : Database) (book : Book) : Type 0 where
   pub verdict : HasVerdict rows book.failing
   pub tables : book.tables ≡ without_reply_bytes rows
 
--- the book, or the fault that says why there is none
+-- the book, or the fault that states why the database can't be read
 abbrev pub answer_of : Result Finding Error → Result Book FileFault
 answer_of (Ok (finding.NotOurs difference)) = Err (NotOurs (OfTables difference))
 answer_of (Ok finding.Unreadable) = Err (Damaged UnreadableRow)

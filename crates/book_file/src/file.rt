@@ -3,7 +3,8 @@ ghost use Rattle.std.specs.Prelude.{◌≡◌, ◌⊎◌, false, IfErr, IfOk, If
 ghost use Rattle.sqlite.specs.WalFiles.{image_at};
 ghost use Rattle.sqlite.specs.WalReads.{AreClean};
 ghost use Rattle.sqlite_std_file.specs.File.{IsFresh};
-ghost use Rattle.book_file.specs.Files.{InFiles, IsOfPath, IsReadOf, IsUnread, empty};
+ghost use Rattle.store_files.specs.Wal.{IsWholeWal};
+ghost use Rattle.book_file.specs.Files.{AreOnlyRead, InFiles, IsOfPath, IsReadOf, IsUnread, empty};
 ghost use Rattle.book_file.specs.Found.{HasVerdict, IsFound};
 ghost use Rattle.book_file.specs.Left.{HoldsStill, IsLeft, IsLog, WereClosed, unguarded};
 
@@ -17,7 +18,9 @@ use sqlite::{Connection, Error, ErrorCode, FileFrom, FileStore};
 use sqlite_disk::{self, Disk, Start};
 use std::alloc::{AllocError, AllocGlobal, Global};
 use std::fs::Files;
-use store_files::{Place, has_log, has_more, place_of, refuse_damaged_at, unopened};
+use store_files::{
+    Place, files_at, has_log, has_more, place_of, refuse_damaged, refuse_damaged_at, unopened,
+};
 
 /// The result of reading a database file, and its two files if they were opened.
 pub type BookWithFiles<S> = (
@@ -30,8 +33,9 @@ pub type BookWithFiles<S> = (
 ///
 /// The database file isn't written, and the WAL keeps everything that it has for the database file.
 /// If the two files have returned what was written to them, the book has the rows of the database
-/// that they held when they were opened. They still hold this database, even after a crash. Opening
-/// the database may write to the WAL, and no checkpoint follows.
+/// that they held when they were opened, and the WAL had lost no commits. They still hold this
+/// database, even after a crash. Opening the database may write to the WAL, and no checkpoint
+/// follows.
 ///
 /// The answers of the file system have no contract. Only tests therefore show which files are
 /// opened, that an error without files has a true cause, and that the bytes of the WAL don't
@@ -57,7 +61,7 @@ pub fn book_in<S: Start>(rt: &HostRuntime, path: &str, start: S) -> BookWithFile
         (λ fault. IsUnread ⟦<GuardedFile<S> as Disk>⟧ IsFresh fault result.1) }
 {
     match place_of(rt, path) {
-        Ok(Place::File { is_sqlite: _ }) => match refuse_unread(rt, path) {
+        Ok(Place::File { is_sqlite: _ }) => match refuse_blank(rt, path) {
             Ok(()) => book_at(rt, path, start),
             Err(fault) => (Err(fault), None),
         },
@@ -72,25 +76,25 @@ pub fn book_in<S: Start>(rt: &HostRuntime, path: &str, start: S) -> BookWithFile
     }
 }
 
-// Refuses a file whose WAL is damaged, and a file in which SQLite would create a database. The WAL
-// is examined in a separate open, because SQLite drops everything after the damage when it opens
-// the file.
-fn refuse_unread(rt: &HostRuntime, path: &str) -> Result<(), FileFault>
-    ensures { IfErr result IsOfPath }
-{
-    match refuse_damaged_at(rt, path) {
-        Ok(()) => refuse_blank(rt, path),
-        Err(fault) => Err(fault),
-    }
-}
-
-fn refuse_blank<R: Files + AllocGlobal>(rt: &R, path: &str) -> Result<(), FileFault>
+// Refuses a file in which SQLite would create a database. If its WAL is damaged, the fault reports
+// the damage.
+fn refuse_blank(rt: &HostRuntime, path: &str) -> Result<(), FileFault>
     ensures { IfErr result IsOfPath }
 {
     match is_blank(rt, path) {
-        Ok(true) => Err(empty()),
+        Ok(true) => Err(blank(rt, path)),
         Ok(false) => Ok(()),
         Err(AllocError) => Err(FileFault::Memory),
+    }
+}
+
+// Returns the refusal of a file in which SQLite would create a database.
+fn blank(rt: &HostRuntime, path: &str) -> FileFault
+    ensures { IsOfPath result }
+{
+    match refuse_damaged_at(rt, path) {
+        Ok(()) => empty(),
+        Err(fault) => fault,
     }
 }
 
@@ -109,7 +113,9 @@ fn is_blank<R: Files + AllocGlobal>(rt: &R, path: &str) -> Result<bool, AllocErr
     Ok(!has_more(rt, path, 0)? || (!has_more(rt, path, 1)? && !has_log(rt, path)?))
 }
 
-// Reads and audits the database file at `path`, which exists.
+// Reads and audits the database file at `path`, which isn't empty. Both files are locked from
+// before the WAL is examined until they are closed. SQLite gets them only if the WAL isn't damaged,
+// because it drops everything after the damage when it opens the files.
 fn book_at<S: Start>(rt: &HostRuntime, path: &str, start: S) -> BookWithFiles<S>
     ensures verdict { IfOk result.0 (λ book. HasVerdict book.tables book.failing) }
     ensures given { IsOk result.0 → IsSome result.1 }
@@ -120,7 +126,35 @@ fn book_at<S: Start>(rt: &HostRuntime, path: &str, start: S) -> BookWithFiles<S>
     ensures refused { IfErr result.0
         (λ fault. IsUnread ⟦<GuardedFile<S> as Disk>⟧ IsFresh fault result.1) }
 {
-    match open_guarded(rt, path, start) {
+    let mut files = match files_at(rt, path, start) {
+        Ok(files) => files,
+        Err(error) => return (Err(unopened(error, place_of(rt, path))), None),
+    };
+    match refuse_damaged(rt.alloc(), &mut files) {
+        Ok(()) => read_files(rt, path, files),
+        Err(fault) => (Err(fault), Some(files)),
+    }
+}
+
+// Reads and audits the database in the two files at `path`, whose WAL isn't damaged.
+fn read_files<S: Start>(
+    rt: &HostRuntime,
+    path: &str,
+    files: sqlite_disk::Files<FileFrom<S>>,
+) -> BookWithFiles<S>
+    requires read { AreOnlyRead ⟦<FileFrom<S> as Disk>⟧ IsFresh (image_at S.Start) files }
+    requires whole { AreClean ⟦<FileFrom<S> as Disk>⟧ files.log files.db
+        → IsWholeWal (image_at S.Start) }
+    ensures verdict { IfOk result.0 (λ book. HasVerdict book.tables book.failing) }
+    ensures given { IsOk result.0 → IsSome result.1 }
+    ensures left { IfSome result.1
+        (λ files. HoldsStill ⟦<FileFrom<S> as Disk>⟧ S.Start.db files.db) }
+    ensures found { IfOk result.0 (λ book. IfSome result.1
+        (InFiles ⟦<FileFrom<S> as Disk>⟧ (image_at S.Start) (λ db. IsFound db book))) }
+    ensures refused { IfErr result.0
+        (λ fault. IsUnread ⟦<GuardedFile<S> as Disk>⟧ IsFresh fault result.1) }
+{
+    match open_guarded(rt, files) {
         Ok(conn) => {
             let (read, files) = read_and_leave(rt.alloc(), conn);
             with_files(read, files)

@@ -13,8 +13,8 @@ use over_tables::{Cause, FileFault};
 use sqlite::{Alter, Connection, Error};
 use std::alloc::Global;
 
-// Returns the book, or the fault that says why there is none. Rows that break an audit rule aren't
-// a fault.
+// Returns the book, or the fault that states why the database can't be read. Rows that break an
+// audit rule aren't a fault.
 fn answer_of(found: Result<Finding, Error>) -> Result<Book, FileFault>
     ensures { result ≡ answer_of found }
 {

@@ -12,4 +12,4 @@ pub use faults::unopened;
 pub use file::{FileState, StoreTask, with_store};
 pub use new_file::create_private;
 pub use place::{Place, has_log, has_more, place_of};
-pub use wal::{has_suspect_wal, refuse_damaged, refuse_damaged_at};
+pub use wal::{files_at, has_suspect_wal, refuse_damaged, refuse_damaged_at};

@@ -223,8 +223,17 @@ fn open_in<D: Disk + Drop>(
     }
 }
 
-// Opens and locks the two files at `path`, with the errors of `Connection::open_from`.
-fn files_at<S: Start>(rt: &HostRuntime, path: &str, start: S) -> Result<Files<FileFrom<S>>, Error>
+/// Opens and locks the two files at `path`. `start` represents their contents before the call.
+/// Creates a file that doesn't exist.
+///
+/// # Errors
+///
+/// Returns the error that `Connection::open_from` would return.
+pub fn files_at<S: Start>(
+    rt: &HostRuntime,
+    path: &str,
+    start: S,
+) -> Result<Files<FileFrom<S>>, Error>
     ensures memory { path.now ≡ codes ":memory:" → IsErrAnd result
         (λ e. e ≡ Error.SqliteFailure ErrorCode.CannotOpen) }
     ensures log { IfOk result (λ files. IsTrue (file_is_usable S.Start files.log)) }

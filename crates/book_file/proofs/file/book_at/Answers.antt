@@ -1,34 +1,32 @@
-use Rattle.std.proofs.Common.{refl, inl, inr, sym, ◌∙◌}
-use Rattle.std.proofs.lemmas.Bool.{false≢true}
+use Rattle.std.proofs.Common.{ap₂, inl, inr}
 use Rattle.sqlite.specs.WalFiles.{image_at}
-use Rattle.over_tables.specs.declared.fault.FileFault.TheVariants.{Storage}
-use Rattle.book_file.specs.Left.{IsLog, unguarded}
-use Rattle.book_file.proofs.Handing.{book_in_files, fault_in_files, found_with, unopened_in_files, unread_in_files}
+use Rattle.sqlite_std_file.specs.File.{IsFresh}
+use Rattle.store_files.proofs.Opened.{image, seen, whole_in}
+use Rattle.book_file.proofs.Fresh.{damaged_now, fresh_holds, holds_still, only_read}
 use Rattle.book_file.proofs.file.book_at.Goals as goal
 
-pub returns-in-Ok-clause-found : goal.returns-in-Ok-clause-found
-returns-in-Ok-clause-found g c =
-    let read = c.read_and_leave-read.result.0 in
-    let files = c.read_and_leave-read.result.1 in
-    found_with c.with_files.result read (unguarded files) Storage (IsLog files.db) c.with_files.ensures.same _
-    (book_in_files (image_at g.S.Start) c.in-Ok.conn c.in-Ok.ensures.opened c.in-Ok.ensures.found files read c.read_and_leave-read.ensures.read)
+pub read_files-requires-clause-read : goal.read_files-requires-clause-read
+read_files-requires-clause-read g c =
+    let (log, db) = c.in-Ok.ensures.fresh in
+    let first = ap₂ image (ap₂ (seen g.S.Start.log g.S.Start.db) log.0 log.1) (ap₂ (seen g.S.Start.log g.S.Start.db) db.0 db.1) in
+    let holds = fresh_holds g.S.Start.is_mixing c.in-Ok.files.db.is_log g.S.Start.log g.S.Start.db c.in-Ok.files.db.calls.log.events c.in-Ok.files.db.key db.0 db.1 in
+    only_read _ (image_at g.S.Start) c.in-Ok.files c.refuse_damaged.new.files _ (log, db) (c.refuse_damaged.ensures.log, c.refuse_damaged.ensures.db) first holds
 
-pub returns-in-Ok-clause-refused : goal.returns-in-Ok-clause-refused
-returns-in-Ok-clause-refused g c =
-    let read = c.read_and_leave-read.result.0 in
-    let files = c.read_and_leave-read.result.1 in
-    unread_in_files _ _ c.open_guarded.result c.open_guarded.ensures.failed c.with_files.result read files c.with_files.ensures.same c.read_and_leave-read.ensures.closed
-    (fault_in_files (image_at g.S.Start) c.in-Ok.conn c.in-Ok.ensures.opened c.in-Ok.ensures.found files read c.read_and_leave-read.ensures.read)
+pub read_files-requires-clause-whole : goal.read_files-requires-clause-whole
+read_files-requires-clause-whole g c clean =
+    let (log, db) = c.in-Ok.ensures.fresh in
+    let first = ap₂ image (ap₂ (seen g.S.Start.log g.S.Start.db) log.0 log.1) (ap₂ (seen g.S.Start.log g.S.Start.db) db.0 db.1) in
+    whole_in _ (image_at g.S.Start) c.in-Ok.files c.refuse_damaged.new.files c.refuse_damaged.ensures.log first (c.in-Ok-refuse_damaged.ensures.whole clean)
 
-pub returns-in-Err-default-Some-clause-refused : goal.returns-in-Err-default-Some-clause-refused
-returns-in-Err-default-Some-clause-refused g c =
-    let arm = c.in-Err-default-Some in
-    unopened_in_files _ _ c.open_guarded.result c.open_guarded.ensures.failed c.with_files-in-Err-default-Some.result _ arm.files c.with_files-in-Err-default-Some.ensures.same
-    arm.field-0-0 arm.field-0-1 arm.is arm.field-0-1-is c.empty.result refl (inr (c.was_to_be_written.ensures.0 c.if-was_to_be_written.true, c.empty.ensures))
+pub returns-in-Err-refuse_damaged-clause-left : goal.returns-in-Err-refuse_damaged-clause-left
+returns-in-Err-refuse_damaged-clause-left g c =
+    let (log, db) = c.in-Ok.ensures.fresh in
+    let first = ap₂ image (ap₂ (seen g.S.Start.log g.S.Start.db) log.0 log.1) (ap₂ (seen g.S.Start.log g.S.Start.db) db.0 db.1) in
+    let holds = fresh_holds g.S.Start.is_mixing c.in-Ok.files.db.is_log g.S.Start.log g.S.Start.db c.in-Ok.files.db.calls.log.events c.in-Ok.files.db.key db.0 db.1 in
+    holds_still _ IsFresh _ _ (only_read _ (image_at g.S.Start) c.in-Ok.files c.refuse_damaged.new.files IsFresh (log, db) (c.refuse_damaged.ensures.log, c.refuse_damaged.ensures.db) first holds)
 
-pub returns-in-Err-default-Some-2-clause-refused : goal.returns-in-Err-default-Some-2-clause-refused
-returns-in-Err-default-Some-2-clause-refused g c =
-    let arm = c.in-Err-default-Some in
-    unopened_in_files _ _ c.open_guarded.result c.open_guarded.ensures.failed c.with_files-in-Err-default-Some-2.result _ arm.files c.with_files-in-Err-default-Some-2.ensures.same
-    arm.field-0-0 arm.field-0-1 arm.is arm.field-0-1-is c.unopened.result refl
-    (inl ((λ was. false≢true (sym c.if-was_to_be_written.false ∙ c.was_to_be_written.ensures.1 was)), (c.place_of.result, c.unopened.ensures)))
+pub returns-in-Err-refuse_damaged-clause-refused : goal.returns-in-Err-refuse_damaged-clause-refused
+returns-in-Err-refuse_damaged-clause-refused g c =
+    let (log, db) = c.in-Ok.ensures.fresh in
+    let first = ap₂ image (ap₂ (seen g.S.Start.log g.S.Start.db) log.0 log.1) (ap₂ (seen g.S.Start.log g.S.Start.db) db.0 db.1) in
+    inr (inl (damaged_now _ (image_at g.S.Start) c.in-Ok.files c.refuse_damaged.new.files c.refuse_damaged.ensures.log first c.in-Err-refuse_damaged.fault c.in-Err-refuse_damaged.ensures.refused))
