@@ -51,7 +51,7 @@ pub record OpensExisting {S : Type 0} (g : Ghosts S) (old : Held S) (result : Re
   -- The tables match a version, but no sound contents have these rows (refusal 82), as the fault states.
   pub damaged : IfErr result (λ e. HasCleanDisk (state g e.0) → (damage : Damage) → e.1 ≡ fault.Damaged damage
       → ((v : Version) × IsOfVersion v (state g old).now) × ((v : Version) → ¬ HoldsSoundRows v (state g old).now) × SaysWhat (state g old).now damage)
-  -- The database needn't be empty.
+  -- The fault is never that the database isn't empty.
   pub existing : IfErr result (λ e. e.1 ≢ fault.NotEmpty)
   -- An open of a refused database finds no contents in it.
   pub refuses : IfErr result (λ e. HasCleanDisk (state g e.0) → IsTrue (state g old).is_open → IsRefusal e.1 → (state g old).now.schema ≢ no_schema → FindsAtOpen None (state g old).now.trees)
