@@ -24,9 +24,6 @@ module _ {X A : Type 0} (f : X → List A) (xs : List X) (all : List A) where
         ∙ ap (λ ys. flat_map f (take i xs) ++ flat_map f ys) (drop_more xs i x within ∙ ap (λ y. y ∷ drop (i + 1) xs) (sym at)) in
         other (flat_map f (drop (i + 1) xs)) (append_cancel_left (flat_map f (take i xs)) rest (f x ++ flat_map f (drop (i + 1) xs)) (sym left ∙ whole ∙ split))
 
-  pub all_taken : (i : ℕ) (rest : List A) → length xs ≤ i → Leaves i rest → rest ≡ [] → all ≡ flat_map f xs
-  all_taken i rest end left none = left ∙ ap (λ ys. flat_map f (take i xs) ++ ys) none ∙ append-nil (flat_map f (take i xs)) ∙ ap (flat_map f) (take_all i xs end)
-
   pub none_left : (i : ℕ) (rest : List A) → length xs ≤ i → Leaves i rest → all ≡ flat_map f xs → rest ≡ []
   none_left i rest end left whole =
       append_cancel_left (flat_map f xs) rest [] (ap (λ ys. flat_map f ys ++ rest) (sym (take_all i xs end)) ∙ sym left ∙ whole ∙ sym (append-nil (flat_map f xs)))

@@ -11,11 +11,6 @@ use Rattle.sql_tables.specs.Each.{Each, WroteEach}
 use Rattle.table_rows.specs.Tables.{Tables}
 use Rattle.sql_rows.specs.Many.{GoesOn, WroteMany}
 
--- After a successful part inside a transaction, the transaction is still open.
-pub wrote_many : {X : Type 0} (R : Database → Database → Type 0) (a b : State) (r : Result X Error) → Inside R a b → KeepsCommit a b → WroteMany R a b r
-wrote_many R a b (Ok x) well kept = record { well = record { made = well.made; committed = well.committed; inside = λ _. well.inside }; kept = kept }
-wrote_many R a b (Err e) well kept = record { well = tt; kept = kept }
-
 pub many : {X : Type 0} (R : Database → Database → Type 0) (a b : State) (r : Result X Error) → Wrote R a b r → WroteMany R a b r
 many R a b (Ok x) it = record { well = record { made = it.well.made; committed = it.well.committed; inside = λ _. it.well.inside }; kept = it.kept }
 many R a b (Err e) it = record { well = tt; kept = it.kept }
@@ -24,13 +19,6 @@ many R a b (Err e) it = record { well = tt; kept = it.kept }
 pub failed_many : {X : Type 0} (R : Database → Database → Type 0) (a b : State) (r : Result X Error) → IsErr r → KeepsCommit a b → WroteMany R a b r
 failed_many R a b (Ok x) is kept = absurd (cc)
 failed_many R a b (Err e) is kept = record { well = tt; kept = kept }
-
--- a single row after another part
-pub wrote_after : {X : Type 0} (P Q R : Database → Database → Type 0) (a b c : State) (r : Result X Error) → (P a.now b.now → Q b.now c.now → R a.now c.now) → GoesOn P a b → KeepsCommit a b → Inside Q b c
-    → KeepsCommit b c → WroteMany R a c r
-wrote_after P Q R a b c (Ok x) both one kept two kept_too =
-    record { well = record { made = both one.made two.made; committed = two.committed ∙ one.committed; inside = λ _. two.inside }; kept = keeps_then a b c kept kept_too }
-wrote_after P Q R a b c (Err e) both one kept two kept_too = record { well = tt; kept = keeps_then a b c kept kept_too }
 
 -- many rows after many rows
 pub many_after : {X : Type 0} (P Q R : Database → Database → Type 0) (a b c : State) (r : Result X Error) → (P a.now b.now → Q b.now c.now → R a.now c.now) → GoesOn P a b → KeepsCommit a b → WroteMany Q b c r → WroteMany R a c r

@@ -4,7 +4,7 @@ use Rattle.std.proofs.lemmas.Bool.{lt-ltb}
 use Rattle.std.specs.Prelude.{IfSome, nat_lt, if◌then◌else◌}
 use Rattle.hex.specs.Hex.{decode_pairs, digit_or_error, hex_digit_value, pair_value, ◌>>=◌}
 use Rattle.hex.specs.declared.error.FromHexError.{FromHexError}
-use Rattle.hex.proofs.Pairs.{prepend, decode_done, decode_err, decode_step, decode_start}
+use Rattle.hex.proofs.Pairs.{prepend, decode_done, decode_err, decode_step}
 use Rattle.dgi.specs.declared.fault.DgiFault.TheVariants.{NotHex}
 use Rattle.dgi.specs.Coding.{bytes_or_fault}
 
@@ -64,6 +64,3 @@ pub decoded : (text bytes : List ℕ) (i : ℕ) (all : Bool) → length bytes �
     → bytes_or_fault (decode_pairs 0 text) ≡ (if all then Ok bytes else Err NotHex)
 decoded text bytes i true done fits was = ap bytes_or_fault (decode_done text bytes i done fits was)
 decoded text bytes i false done fits was = ap bytes_or_fault was.1
-
-pub start_decoded : (text bytes : List ℕ) → IsDecoded text bytes 0 true
-start_decoded text bytes = decode_start text bytes

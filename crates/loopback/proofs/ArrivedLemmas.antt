@@ -7,7 +7,7 @@ use Rattle.std.proofs.Math.Bool.{Bool-set}
 use Rattle.std.proofs.Math.Logic.{∥∥₁_elim, ∥∥₁_map}
 use Rattle.std.proofs.Math.Seq.{drop-append-add, take-append_seam}
 use Rattle.std.proofs.lemmas.Bool.{true≢false}
-use Rattle.std.proofs.lemmas.List.{drop-append-le, drop-drop, length-append, length-drop, length-take-le, nil_from_length, take-append-drop, take_all, take_at}
+use Rattle.std.proofs.lemmas.List.{drop-append-le, drop-drop, length-append, length-drop, length-take-le, take-append-drop, take_all, take_at}
 use Rattle.http_messages.specs.declared.settled.Progress.{Progress}
 use Rattle.http_messages.specs.declared.settled.Progress.TheVariants as progress
 use Rattle.http_messages.specs.Heads.{head_end}
@@ -34,11 +34,6 @@ pub searched : (bytes : List ℕ) (p : Progress) → length bytes ≤ 8192 → p
 searched bytes p few is told =
     let none : is_some (end_of_head bytes) ≡ false = ∥∥₁_elim (subst (λ p. ∥ IsProgress bytes p ∥₁) is told) (Bool-set _ _) (λ t. ap is_some t.1) in
     sym (ap head_end (take_all 8192 bytes few)) ∙ none_from (end_of_head bytes) none
-
--- more bytes in the array of the first bytes, while the buffer `rest` is empty
-pub front_grows : (old rest more front : List ℕ) → rest ≡ [] → front ≡ old ++ more → front ++ rest ≡ (old ++ rest) ++ more
-front_grows old rest more front none grown =
-    ap (λ l. front ++ l) none ∙ append-nil front ∙ grown ∙ ap (λ l. l ++ more) (sym (ap (λ l. old ++ l) none ∙ append-nil old))
 
 pub front_told : (old rest more front : List ℕ) (from : ℕ) (p : Progress) → rest ≡ [] → front ≡ old ++ more → from ≡ length old → ∥ IsProgress (old ++ rest) p ∥₁ → ∥ IsProgress (take from front) p ∥₁
 front_told old rest more front from p none grown size told =
@@ -72,11 +67,6 @@ pub brought : (bytes piece rest front : List ℕ) (at count : ℕ) → drop at b
 brought bytes piece rest front at count is fits taken =
     let after : drop (at + count) bytes ≡ drop count piece ++ rest = sym (drop-drop count at bytes) ∙ ap (drop count) is ∙ drop-append-le count piece rest fits in
     is ∙ ap (λ l. l ++ rest) (sym (take-append-drop count piece)) ∙ append_assoc (take count piece) (drop count piece) rest ∙ ap (λ l. take count piece ++ l) (sym after) ∙ ap (λ l. l ++ drop (at + count) bytes) (sym taken)
-
-pub brought_all : (bytes piece rest : List ℕ) (at : ℕ) → drop at bytes ≡ piece ++ rest → (piece ≡ [] → rest ≡ []) → length piece ≡ 0 → drop at bytes ≡ []
-brought_all bytes piece rest at is end none =
-    let empty : piece ≡ [] = nil_from_length piece none in
-    is ∙ ap (λ l. l ++ rest) empty ∙ end empty
 
 pub in_front : (front rest : List ℕ) (at : ℕ) → at < length front → IsPiece (front ++ rest) at (drop at front)
 in_front front rest at within = (rest, drop-append-le at front rest (omega (arith, within)), λ none. absurd (omega (arith, ap length none, length-drop at front, within)))

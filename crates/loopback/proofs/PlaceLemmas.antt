@@ -30,9 +30,6 @@ found_is p xs i found = elim (cases_Bool (nat_lt (position_or_len p xs) (length 
   | inr past ↦ absurd (none-some i (sym (ap (λ (b : Bool). cond b (Some (position_or_len p xs)) None) past) ∙ found))
 ]
 
-pub found_within : {X : Type 0} (p : X → Bool) (xs : List X) (i : ℕ) → position p xs ≡ Some i → i < length xs
-found_within p xs i found = let is = found_is p xs i found in omega (arith, is.0, is.1)
-
 -- the element at the position that was found passes
 pub found_passes : {X : Type 0} (p : X → Bool) (xs : List X) (i : ℕ) (d : X) → position p xs ≡ Some i → p (get_or xs i d) ≡ true
 found_passes p xs i d found = let is = found_is p xs i found in ap (λ (n : ℕ). p (get_or xs n d)) (sym is.0) ∙ passes_at p xs d is.1

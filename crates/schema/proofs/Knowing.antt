@@ -23,8 +23,6 @@ use Rattle.store_reads.specs.Fixed.{fixed}
 use Rattle.store_reads.specs.Counted.{AreCountersIn}
 use Rattle.store_reads.specs.Known.{HasKnown, IsAllKnownIn, IsKnownIn, Knows, KnowsNothing, IsStandingIn}
 use Rattle.store_reads.proofs.Knowing.{knows_after}
-use Rattle.adoption.specs.Adopts.{Adopts}
-use Rattle.adoption.specs.EndsCommitted.{EndsCommitted}
 use Rattle.schema.proofs.Founding.{founded}
 
 -- ---- a commit
@@ -61,11 +59,6 @@ has_none t db known none is = record { rows = ∣ (t, is, none_known t known non
 
 pub knows_created : (old new : State) (known : Known) → KnowsNothing known → old.now.schema ≡ no_schema → (HasCleanDisk new → Ends MakesAll old new) → Knows new known
 knows_created old new known none empty made clean live = has_none (image no_contents) new.now known none (founded old.now new.now empty (made clean).made)
-
-pub knows_adopted : (old new : State) (known : Known) → KnowsNothing known → (HasCleanDisk new → EndsCommitted Adopts old new) → Knows new known
-knows_adopted old new known none comes clean live =
-    let k = comes clean in
-    has_none (image k.made.contents) new.now known none (subst (IsImage (image k.made.contents)) (sym (k.shown live)) k.made.stands)
 
 -- ---- a read
 

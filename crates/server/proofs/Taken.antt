@@ -1,5 +1,5 @@
 -- Lemmas about the connections in memory that were taken back.
-use Rattle.std.proofs.Common.{◌≡◌, ℕ, zero, suc, ◌<◌, ◌≤◌, List, [], ◌∷◌, ◌++◌, length, drop, Some, refl, ap, sym, arith}
+use Rattle.std.proofs.Common.{◌≡◌, ℕ, zero, suc, ◌<◌, List, [], ◌∷◌, ◌++◌, length, drop, Some, refl, ap, sym, arith}
 use Rattle.std.proofs.lemmas.List.{map-append}
 use Rattle.std.specs.Prelude.{get_or, set, Vec}
 use Rattle.std.specs.declared.alloc.Global.{Global}
@@ -12,12 +12,6 @@ pub comes_first : (inputs : List (Vec ℕ Global)) (n : ℕ) (v : Vec ℕ Global
 comes_first [] n v lt is = absurd (omega (arith, lt))
 comes_first (x ∷ inputs) zero v lt is = ap (λ (u : Vec ℕ Global). u.items ∷ texts inputs) (sym is)
 comes_first (x ∷ inputs) (suc n) v lt is = comes_first inputs n v (omega (arith, lt)) is
-
-pub none_comes : (inputs : List (Vec ℕ Global)) (n : ℕ) → length inputs ≤ n → drop n (texts inputs) ≡ []
-none_comes [] zero le = refl
-none_comes [] (suc n) le = refl
-none_comes (x ∷ inputs) zero le = absurd (omega (arith, le))
-none_comes (x ∷ inputs) (suc n) le = none_comes inputs n (omega (arith, le))
 
 -- after one more reply, the next input is the first to come, even if the input before it was
 -- replaced

@@ -120,19 +120,6 @@ so_far_more gives rows xs ys last row x z is above one pushed h = record {
 
 -- ---- states
 
--- the last call of a query that was unchanged before it
-pub kept_by : (old mid new : State) → (IsTrue old.is_open → old.now ≡ old.committed) → IsUnchanged old mid → IsUnchanged mid new ⊎ IsRolledBack mid new → IsKept old new
-kept_by old mid new settled same (inl still) = record {
-  was_open = λ _. same.0.was_open;
-  now_is = λ _. still.0.now_is ∙ same.0.now_is;
-  committed_is = λ _. still.0.committed_is ∙ same.0.committed_is;
-}
-kept_by old mid new settled same (inr undone) = record {
-  was_open = λ _. same.0.was_open;
-  now_is = λ live. (undone.undone live).0 ∙ same.0.committed_is ∙ sym (settled same.0.was_open);
-  committed_is = λ live. (undone.undone live).1 ∙ same.0.committed_is;
-}
-
 pub kept_at : (old new : State) → (IsTrue old.is_open → old.now ≡ old.committed) → IsUnchanged old new ⊎ IsRolledBack old new → IsKept old new
 kept_at old new settled (inl same) = record { was_open = λ _. same.0.was_open; now_is = λ _. same.0.now_is; committed_is = λ _. same.0.committed_is }
 kept_at old new settled (inr undone) = record {

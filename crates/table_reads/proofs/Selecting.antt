@@ -21,7 +21,6 @@ use Rattle.sqlite_ast.specs.declared.Core.{Core, roll-Core}
 use Rattle.sqlite_ast.specs.declared.Select.{Select, roll-Select}
 use Rattle.sqlite_resolve.specs.declared.scope.Bound.{Bound}
 use Rattle.sqlite_resolve.specs.declared.scope.Output.{Output}
-use Rattle.sqlite_resolve.specs.declared.body.Joined.{Joined}
 use Rattle.sqlite_resolve.specs.declared.state.State.{State}
 use Rattle.sqlite_resolve.specs.declared.scope.Found.TheVariants as found
 use Rattle.sqlite_resolve.specs.declared.state.Carried.{Carried}
@@ -188,18 +187,6 @@ module _ (s : Schema) (name : Name) (at : ℕ) (t : Table) (finds : table_named 
   bounds_is : bounds s (source_of name ∷ []) begun ≡ Ok (the_one, later)
   unfolding bounds bound take_slot layers
   bounds_is = rw (table_in_is 1) refl
-
-  tests_is : (cx : Context) (done : List Term) (st : State) → tests lower cx done None st ≡ Ok (done, st)
-  unfolding tests
-  tests_is cx done st = refl
-
-  shared_is : (cx : Context) (st : State) → shared cx the_one (bound_of name at) st ≡ Ok ([], st)
-  unfolding shared
-  shared_is cx st = refl
-
-  inner_is : (cx : Context) (done : Joined) (tree : ℕ) (st : State) → done.filter ≡ [] → inner_join lower cx done tree [] None st ≡ Ok (record { steps = done.steps ++ Inner tree ∷ []; filter = [] }, st)
-  unfolding inner_join tests
-  inner_is cx done tree st none = rw none refl
 
   join_is : (cx : Context) → cx.schema ≡ s → (st : State) → join lower cx the_one (record { steps = []; filter = [] }) (bound_of name at) (source_of name) st ≡ Ok (record { steps = Inner t.tree ∷ []; filter = [] }, st)
   unfolding join shared inner_join tests layers
