@@ -17,6 +17,7 @@ use Rattle.job_facts.specs.Contents.{AreSame, AreSound, Contents, no_contents}
 use Rattle.job_facts.specs.Store.{IsFound}
 use Rattle.job_facts.proofs.NextContents.{AreSame-trans, nothing_sound}
 use Rattle.reply_store.specs.Runs.{Tried}
+use Rattle.reply_store.proofs.DayLemmas.{found_same}
 use Rattle.server.specs.Exchanges.{Exchange, ServesAll, tries}
 use Rattle.sql_base.specs.Columns.{no_schema}
 use Rattle.schema.specs.Begun.{WasHeld}
@@ -31,7 +32,6 @@ use Rattle.over_tables.specs.declared.opening.Wanted.{Wanted}
 use Rattle.over_tables.specs.declared.opening.Wanted.TheVariants.{Any, Ours}
 use Rattle.file_runs.specs.Files.{HoldRuns, IsLeftBy, IsLeftByCrash}
 use Rattle.file_runs.specs.Runs.{IsAfterRuns, RunsGoOn, StartsAfterRuns}
-use Rattle.file_runs.proofs.RunLemmas.{found_same}
 
 empty : (wanted : Wanted) (db : Database) → Begins wanted db → db.schema ≡ no_schema
 empty Any db begins = begins

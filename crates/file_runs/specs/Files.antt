@@ -32,8 +32,8 @@ pub record FindsTrees (image : Image) (trees : Trees) : Type 0 where
   pub holds : (db : Trees) → HoldsDatabase image db → trees ≡ db
   pub reads : AreFoundIn image trees
 
--- An open of two files with these bytes isn't refused, and finds contents that are possible after
--- the runs, the first of which began with the contents `c`.
+-- An open of two files with the bytes `image` isn't refused, and finds contents that are possible
+-- after the runs `runs`. The first run began with the contents `c`.
 abbrev pub HoldRuns : Image → Contents → List (List Tried) → Type 0
 HoldRuns image c runs = (trees : Trees) → FindsTrees image trees → (d : Option Contents) → FindsAtOpen d trees → ∥ ((e : Contents) × IsAfterRuns c runs e × IsFound d e) ∥₁
 

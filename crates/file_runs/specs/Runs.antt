@@ -1,19 +1,13 @@
 -- The contents that are possible after several runs of a server, each of which ends at any point.
-use Rattle.std.specs.Prelude.{◌≡◌, List, [], ◌∷◌, ◌++◌, Option}
+use Rattle.std.specs.Prelude.{List, [], ◌∷◌, ◌++◌, Option}
 use Rattle.job_facts.specs.Contents.{AreSame, AreSound, Contents}
 use Rattle.job_facts.specs.Reopening.{OpensWith}
 use Rattle.job_facts.specs.Store.{IsFound, IsHonest, State}
 use Rattle.arrivals.specs.Meaning.{Arrived, contents_after}
-use Rattle.reply_store.specs.Days.{TookEffect}
+use Rattle.reply_store.specs.Days.{TookInRuns}
 use Rattle.reply_store.specs.Runs.{Leaves, Tried}
 
--- `took` has the arrivals of these runs that took effect, in their order. A run is the list of the
--- arrivals that it tried.
-abbrev pub TookInRuns : List (List Tried) → List Arrived → Type 0
-TookInRuns [] took = took ≡ []
-TookInRuns (tried ∷ runs) took = (own : List Arrived) × (rest : List Arrived) × TookEffect tried own × TookInRuns runs rest × (took ≡ own ++ rest)
-
--- The contents `e` are possible after these runs, the first of which began with `c`.
+-- The contents `e` are possible after the runs `runs`. The first run began with the contents `c`.
 abbrev pub IsAfterRuns : Contents → List (List Tried) → Contents → Type 0
 IsAfterRuns c runs e = (took : List Arrived) × TookInRuns runs took × AreSame e (contents_after c took)
 

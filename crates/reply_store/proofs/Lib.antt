@@ -1,4 +1,4 @@
-mod DayLemmas
+pub mod DayLemmas
 pub mod Decisions
 pub mod Handling
 pub mod Running

@@ -1,5 +1,5 @@
 -- Defines the contents after several runs of a server, each of which ends at any point.
-use Rattle.std.specs.Prelude.{◌≡◌, ◌⊎◌, ℕ, List, [], ◌∷◌, ◌++◌, false, slice_get, Some}
+use Rattle.std.specs.Prelude.{◌≡◌, ◌⊎◌, ℕ, List, [], ◌∷◌, ◌++◌, map, false, slice_get, Some}
 use Rattle.job_facts.specs.Contents.{AreSame, Contents}
 use Rattle.job_facts.specs.Reopening.{OpensAfter, OpensWith}
 use Rattle.job_facts.specs.Store.{IsHonest, State}
@@ -24,13 +24,18 @@ abbrev pub TookEffect : List Tried → List Arrived → Type 0
 TookEffect tried took =
     (took ≡ decided tried) ⊎ ((i : ℕ) × (a : Arrived) × (slice_get tried i ≡ Some (a, false)) × (took ≡ decided tried ++ a ∷ []))
 
--- `took` has the arrivals of all runs that took effect, in their order
-abbrev pub TookInTurn : {S : Type 0} → List (Run S) → List Arrived → Type 0
-TookInTurn [] took = took ≡ []
-TookInTurn (r ∷ runs) took = (own : List Arrived) × (rest : List Arrived) × TookEffect r.tried own × TookInTurn runs rest × (took ≡ own ++ rest)
+-- `took` has the arrivals of these runs that took effect, in their order. A run is the list of the
+-- arrivals that it tried.
+abbrev pub TookInRuns : List (List Tried) → List Arrived → Type 0
+TookInRuns [] took = took ≡ []
+TookInRuns (tried ∷ runs) took = (own : List Arrived) × (rest : List Arrived) × TookEffect tried own × TookInRuns runs rest × (took ≡ own ++ rest)
+
+-- the arrivals that each run tried
+abbrev pub all_tried : {S : Type 0} → List (Run S) → List (List Tried)
+all_tried {S} runs = map (λ (r : Run S). r.tried) runs
 
 -- After any runs, the store that is opened has the contents after the arrivals that took effect,
 -- except for the order of sets.
 abbrev pub AreLeftByRuns : {S : Type 0} → (S → State) → Type 0
 AreLeftByRuns {S} state = (first last : S) (runs : List (Run S)) (c : Contents) → OpensWith (state first) c → AreRuns state first runs last
-    → (took : List Arrived) × TookInTurn runs took × ((d : Contents) × OpensWith (state last) d × AreSame d (contents_after c took))
+    → (took : List Arrived) × TookInRuns (all_tried runs) took × ((d : Contents) × OpensWith (state last) d × AreSame d (contents_after c took))
