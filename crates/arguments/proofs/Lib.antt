@@ -1,3 +1,4 @@
 mod CommandLemmas
 mod NumberLemmas
+pub mod Refusing
 mod TextLemmas

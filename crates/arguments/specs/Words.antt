@@ -208,10 +208,6 @@ ReadsAs sub (Feed port start) = Reads (codes "feed") ReadsFeed sub (Feed port st
 abbrev pub Means : List Text → Words → Type 0
 Means words = ReadsAs (subcommand_of program words)
 
--- the arguments `words` ask for no subcommand with its values in their ranges
-abbrev pub MeanNothing : List Text → Type 0
-MeanNothing words = (w : Words) → InRange w → ¬ Means words w
-
 -- no subcommand with its values in their ranges satisfies `how`
 abbrev pub ReadsNone : (Words → Type 0) → Type 0
 ReadsNone how = (w : Words) → InRange w → ¬ how w
@@ -263,17 +259,21 @@ IsRefusedBy kinds NotText = ⊥
 IsRefusedBy kinds BadName = ⊥
 IsRefusedBy kinds Memory = ⊤
 
--- the fault is `clap`'s refusal of the arguments `words`; or `clap` accepts them, and they ask for
--- no subcommand in range, or the value for a batch or a machine isn't a name
+-- the fault is `clap`'s refusal of the arguments `words` of the command `app`; or `clap` accepts
+-- them, and `Unread` says why the subcommand that it finds in them isn't read
+abbrev pub IsRefusalOf : App → (Option (Text × List Row) → ValueFault → Type 0) → List Text → WordsFault → Type 0
+IsRefusalOf app Unread words (Help text) = IsRefusedBy (fault_of app words) (Help text)
+IsRefusalOf app Unread words (Version text) = IsRefusedBy (fault_of app words) (Version text)
+IsRefusalOf app Unread words (Usage text) = IsRefusedBy (fault_of app words) (Usage text)
+    ⊎ ((fault_of app words ≡ []) × Unread (subcommand_of app words) lacks.Nothing)
+IsRefusalOf app Unread words NotText = ⊥
+IsRefusalOf app Unread words BadName =
+    (fault_of app words ≡ []) × Unread (subcommand_of app words) lacks.BadName
+IsRefusalOf app Unread words Memory = ⊤
+
+-- the fault is the refusal of the arguments `words` of the program
 abbrev pub IsRefusal : List Text → WordsFault → Type 0
-IsRefusal words (Help text) = IsRefusedBy (fault_of program words) (Help text)
-IsRefusal words (Version text) = IsRefusedBy (fault_of program words) (Version text)
-IsRefusal words (Usage text) = IsRefusedBy (fault_of program words) (Usage text)
-    ⊎ ((fault_of program words ≡ []) × MeanNothing words)
-IsRefusal words NotText = ⊥
-IsRefusal words BadName =
-    (fault_of program words ≡ []) × HasBadNameIn (subcommand_of program words)
-IsRefusal words Memory = ⊤
+IsRefusal = IsRefusalOf program ReadsNot
 
 -- the fault if the arguments of the process can't be read, by the kind of the error
 abbrev pub fault_of_io : IoKind → WordsFault

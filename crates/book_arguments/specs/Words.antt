@@ -1,10 +1,9 @@
 -- The command line of `shopbook` (this project's profile), as a command of `clap`, and the meaning
 -- of its arguments.
-use Rattle.std.specs.Prelude.{◌≡◌, ◌≢◌, ◌⊎◌, ⊤, Bool, List, [], codes, Option, None, Some, true, false, string_bytes}
-use Rattle.clap.specs.Words.{App, Row, Text, fault_of, first_of, new_app, subcommand_of, with_rule, with_subcommand}
-use Rattle.arguments.specs.Words.{HasBadName, HasName, IsFlag, IsRefusedBy, flag, text_rule, versioned}
+use Rattle.std.specs.Prelude.{◌≡◌, ◌≢◌, ◌⊎◌, ⊤, Bool, List, codes, Option, None, Some, true, false, string_bytes}
+use Rattle.clap.specs.Words.{App, Row, Text, first_of, new_app, subcommand_of, with_rule, with_subcommand}
+use Rattle.arguments.specs.Words.{HasBadName, HasName, IsFlag, IsRefusalOf, flag, text_rule, versioned}
 use Rattle.arguments.specs.declared.words.WordsFault.{WordsFault}
-use Rattle.arguments.specs.declared.words.WordsFault.TheVariants.{Help, Version, Usage, NotText, BadName, Memory}
 use Rattle.book_lines.specs.Blanks.{state_word}
 use Rattle.book_lines.specs.declared.blank_state.BlankState.{BlankState}
 use Rattle.book_arguments.specs.declared.words.Ask.{Ask}
@@ -120,12 +119,6 @@ ReadsNot sub lacks.Nothing = (w : BookWords) → ¬ ReadsAs sub w
 ReadsNot sub lacks.BadName = (name : Text) × ((rows : List Row) × (sub ≡ Some (name, rows)) × IsUnread name rows lacks.BadName)
 ReadsNot sub lacks.Memory = ⊤
 
--- the fault is `clap`'s refusal of the arguments `words`; or `clap` accepts them, and they ask for
--- no run, or the value for a batch or a product isn't a name
+-- the fault is the refusal of the arguments `words` of the program
 abbrev pub IsRefusal : List Text → WordsFault → Type 0
-IsRefusal words (Help text) = IsRefusedBy (fault_of program words) (Help text)
-IsRefusal words (Version text) = IsRefusedBy (fault_of program words) (Version text)
-IsRefusal words (Usage text) = IsRefusedBy (fault_of program words) (Usage text) ⊎ ((fault_of program words ≡ []) × ReadsNot (subcommand_of program words) lacks.Nothing)
-IsRefusal words NotText = ⊥
-IsRefusal words BadName = (fault_of program words ≡ []) × ReadsNot (subcommand_of program words) lacks.BadName
-IsRefusal words Memory = ⊤
+IsRefusal = IsRefusalOf program ReadsNot
