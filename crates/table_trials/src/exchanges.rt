@@ -7,8 +7,7 @@ ghost use Rattle.http_requests.specs.Asks.{IsInRange};
 use arrivals::Kept;
 use http_messages::{FixedReply, Flaw, Pieces, Reading, read_message};
 use http_requests::{AskFault, Asked, to_ask};
-use job_facts::{Arrival, JobStore, StoreFault};
-use reply_store::handle;
+use job_facts::Arrival;
 use std::alloc::{AllocError, Global};
 use std::process::Abort;
 use std::test::Fail;
@@ -64,17 +63,6 @@ pub(crate) fn arrival(alloc: Global, exchange: &Exchange) -> Result<Arrival, Fai
         Asked::Arrival(arrival) => Ok(arrival),
         Asked::Account(_) => Err(Fail::new("an account")),
     }
-}
-
-/// Handles `arrival` with `store`, and returns the reply.
-pub(crate) fn reply_to<S: JobStore>(
-    alloc: Global,
-    store: &mut S,
-    arrival: &Arrival,
-) -> Result<Kept, StoreFault>
-    requires { IsArrival arrival.now }
-{
-    handle(alloc, store, arrival)
 }
 
 /// Checks that `kept` has the status and the body of the reply of `exchange`.

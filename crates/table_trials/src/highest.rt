@@ -3,6 +3,8 @@
 //! No test can open a file with such a session number: the audit refuses gaps between the numbers,
 //! so the file would have as many sessions. The test therefore stores a batch and a session with
 //! the numbers before the highest directly. The store doesn't check that they are the next ones.
+ghost use Rattle.std.specs.Prelude.{◌≡◌};
+
 use crate::bodies::{
     accepted, answer, command, ended, imported, lot, made, open, opened, product, refused,
 };
@@ -10,7 +12,7 @@ use crate::exchanges::{Exchange, at_last};
 use crate::refused::tables;
 use crate::stories::ONE_ROW;
 use crate::versions::send_all;
-use job_facts::{Change, JobStore, NewBatch, NewSession};
+use job_facts::{Change, Entry, JobStore, NewBatch, NewSession};
 use std::test::Fail;
 use store_data::{Name, Product};
 
@@ -72,6 +74,19 @@ fn name(text: &[u8]) -> Result<Name, Fail> {
     Ok(Name::new(text).ok_or("no name")?)
 }
 
+// Returns the kept reply to the request `number` of `client`. No test reads its bytes.
+fn entry(client: &Name, number: u64) -> Entry<'_>
+    ensures { result.number ≡ number }
+{
+    Entry {
+        client,
+        number,
+        ask: b"ask",
+        status: 200,
+        body: b"body",
+    }
+}
+
 // Stores the batch B1 with the number before the highest.
 fn add_batch<S: JobStore>(store: &mut S) -> Result<(), Fail> {
     let product = Product {
@@ -88,7 +103,7 @@ fn add_batch<S: JobStore>(store: &mut S) -> Result<(), Fail> {
         raw: ONE_ROW.as_bytes(),
     };
     let (office, change) = (name(b"office")?, Change::AddsBatch { batch });
-    at_last!(store.commit(&office, 3, b"ask", 200, b"body", &change))?;
+    at_last!(store.commit(&entry(&office, 3), &change))?;
     Ok(())
 }
 
@@ -107,7 +122,7 @@ fn add_session<S: JobStore>(store: &mut S) -> Result<(), Fail> {
         batch: name(b"B1")?,
         rec: name(b"R1")?,
     };
-    at_last!(store.commit(&machine, 1, b"ask", 200, b"body", &change))?;
+    at_last!(store.commit(&entry(&machine, 1), &change))?;
     Ok(())
 }
 

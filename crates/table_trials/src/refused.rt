@@ -3,13 +3,14 @@
 //! changes nothing, and returns the right result when it is repeated.
 ghost use Rattle.job_facts.specs.Requests.{IsArrival};
 
-use crate::exchanges::{Exchange, arrival, at_last, check_reply, reply_to};
+use crate::exchanges::{Exchange, arrival, at_last, check_reply};
 use crate::stories::{
     CLOSING, KNOWN, LATE_RESET, MADE_AGAIN, RELEASES, Story, TAKEN, TURNED_DOWN, WITHDRAWAL, WORDS,
 };
 use arrivals::Kept;
 use job_facts::{Arrival, JobStore, StoreFault};
 use list_store::ListStore;
+use reply_store::handle;
 use schema::SqlStore;
 use sqlite::{Connection, MemStore};
 use std::alloc::Global;
@@ -67,14 +68,14 @@ fn reply_at_last<S: JobStore>(
 {
     let counts = at_last!(counts_of(store, arrival))?;
     let (batch, blanks) = (batch_of(store)?, blanks_of(store)?);
-    match reply_to(alloc, store, arrival) {
+    match handle(alloc, store, arrival) {
         Ok(kept) => Ok(kept),
         Err(fault) => {
             assert_eq!(rt; fault, StoreFault::Memory);
             assert_eq!(rt; counts_of(store, arrival)?, counts);
             assert_eq!(rt; batch_of(store)?, batch);
             assert_eq!(rt; blanks_of(store)?, blanks);
-            Ok(reply_to(alloc, store, arrival)?)
+            Ok(handle(alloc, store, arrival)?)
         }
     }
 }

@@ -6,9 +6,10 @@
 //! contain the rows from before or after that arrival. If there was no power failure, the store is
 //! then opened, and the whole run is repeated.
 use crate::disks::{Ended, Left, Stop, close, nothing, open};
-use crate::exchanges::{Exchange, arrival, check_reply, reply_to};
+use crate::exchanges::{Exchange, arrival, check_reply};
 use crate::stories::{MADE_AGAIN, NUMBER_RELEASED, RELEASE, SET_UP};
 use job_facts::{JobStore, StoreFault};
+use reply_store::handle;
 use schema::SqlStore;
 use sqlite::{Alter, Connection, Error};
 use std::alloc::{AllocError, Global};
@@ -60,7 +61,7 @@ fn replies_before_stop<S: JobStore>(
 ) -> Result<usize, Fail> {
     let mut count = 0usize;
     for (place, exchange) in exchanges.iter().enumerate() {
-        match reply_to(alloc, store, &arrival(alloc, exchange)?) {
+        match handle(alloc, store, &arrival(alloc, exchange)?) {
             Ok(kept) => {
                 assert_eq!(rt; count, place);
                 check_reply(rt, exchange, &kept);
@@ -87,7 +88,7 @@ fn check_replies_again<S: JobStore>(
         if is_released && place < SET_UP.len() {
             wanted = Exchange(wanted.0, wanted.1, 409, NUMBER_RELEASED);
         }
-        let kept = reply_to(alloc, store, &arrival(alloc, exchange)?)?;
+        let kept = handle(alloc, store, &arrival(alloc, exchange)?)?;
         check_reply(rt, &wanted, &kept);
     }
     Ok(())

@@ -5,11 +5,12 @@
 //! tests over tables in memory have the same result if any single allocation fails.
 use crate::bodies::{accepted, made, product};
 use crate::disks::{Ended, Left, Stop, close, nothing, open};
-use crate::exchanges::{Exchange, arrival, at_last, check_reply, reply_to};
+use crate::exchanges::{Exchange, arrival, at_last, check_reply};
 use crate::refused::tables;
 use crate::stops::{MANY_CALLS, NO_STOP, adopted, created, put_rows, rows_of};
 use crate::stories::{GREATEST, LAST_DISCARDED, MADE_AGAIN, RELEASE, SET_UP};
 use job_facts::{JobStore, StoreFault};
+use reply_store::handle;
 use schema::{OpenFault, SqlStore};
 use sqlite::{Alter, Connection, Error};
 use std::alloc::{AllocError, Global};
@@ -124,7 +125,7 @@ pub(crate) fn send_all<S: JobStore>(
 ) -> Result<(), Fail> {
     for exchange in exchanges {
         let arrival = arrival(alloc, exchange)?;
-        check_reply(rt, exchange, &at_last!(reply_to(alloc, store, &arrival))?);
+        check_reply(rt, exchange, &at_last!(handle(alloc, store, &arrival))?);
     }
     Ok(())
 }
