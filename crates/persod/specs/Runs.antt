@@ -1,36 +1,21 @@
 -- A run of the program `persod`: the end of its subcommand, and its exit status (this project's
--- profile). The bytes of the process's own streams are unknown.
-use Rattle.std.specs.Prelude.{◌≡◌, ◌⊎◌, ℕ, Bool, None, string_bytes}
+-- profile).
+use Rattle.std.specs.Prelude.{◌≡◌, ◌⊎◌, ℕ, Bool}
 use Rattle.sqlite.specs.Recovery.{Image}
 use Rattle.sqlite_disk.specs.declared.Disk.{Ghosts}
 use Rattle.arguments.specs.Words.{InRange}
 use Rattle.arguments.specs.declared.words.Words.{Words}
-use Rattle.arguments.specs.declared.words.Words.TheVariants as words
 use Rattle.arguments.specs.declared.words.WordsFault.{WordsFault}
 use Rattle.event_lines.specs.declared.level.Level.{Level}
-use Rattle.over_tables.specs.declared.opening.Wanted.TheVariants.{Any, Ours}
 use Rattle.subcommands.specs.Ends.{end_of_words, exit_of}
-use Rattle.subcommands.specs.Runs.{DrillRuns, Feeds, Plans, product_of}
 use Rattle.subcommands.specs.declared.end.End.{End}
-use Rattle.file_tasks.specs.Tasks.{ReportsOver, ServesOver}
-use Rattle.file_tasks.specs.declared.tasks.ReportTask.{ReportTask}
-use Rattle.file_tasks.specs.declared.tasks.ServeTask.{ServeTask}
+use Rattle.tasks.specs.Obeys.{Obeys}
 
 module _ {D : Type 0} (g : Ghosts D) (image : Image) (IsFresh : Bool → D → Type 0) where
-  -- the end of a run of the given subcommand, with the event lines of `level`; only `serve` creates
-  -- a database file
-  abbrev pub Obeys : Level → Words → End → Type 0
-  Obeys level (words.Serve db port turns) end =
-      (task : ServeTask) × (task.path.now ≡ string_bytes db) × (task.port ≡ port) × (task.turns ≡ turns) × (task.level ≡ level) × ServesOver g image IsFresh Any task end
-  Obeys level (words.Report db batch) end = (task : ReportTask) × (task.batch ≡ batch) × ReportsOver g image IsFresh Ours task end
-  Obeys level (words.Feed port start) end = Feeds start None None None None None end
-  Obeys level (words.Plan max low check) end = Plans (product_of max low check) None None None end
-  Obeys level words.Drill end = DrillRuns None None None end
-
   -- The arguments are a subcommand that was run, or `end` is the end for their fault.
   abbrev pub EndsRun : End → Type 0
   EndsRun end =
-      ((level : Level) × (w : Words) × InRange w × Obeys level w end)
+      ((level : Level) × (w : Words) × InRange w × Obeys g image IsFresh level w end)
       ⊎ ((fault : WordsFault) × (is_written : Bool) × (end ≡ end_of_words fault is_written))
 
   -- `status` is the exit status of a run.

@@ -1,2 +1,0 @@
-mod Ending
-mod Keeping

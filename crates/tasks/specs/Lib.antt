@@ -1,0 +1,2 @@
+pub mod Obeys
+pub mod Tasks
