@@ -59,8 +59,8 @@ pub record IsReadOf {D : Type 0} {g : disk.Ghosts D} (conn : Held (FileStore D g
   pub why : IfErr read (Explains (file_state conn).now)
   pub kept : IsOpened conn → HoldNow g (file_state conn).now.trees left
 
--- The two files were just opened and only read since. They have the bytes `image`, and a crash leaves
--- the database file as it is.
+-- The two files were just opened, and only read since. They have the bytes `image`. A crash doesn't
+-- change the database file.
 pub record AreOnlyRead {D : Type 0} (g : disk.Ghosts D) (IsFresh : Bool → D → Type 0) (image : Image) (files : Files D) : Type 0 where
   pub first : Files D
   pub fresh : IsFresh true first.log × IsFresh false first.db

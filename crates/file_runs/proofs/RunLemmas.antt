@@ -1,5 +1,5 @@
 -- Lemmas about the contents after one more run of a server.
-use Rattle.std.proofs.Common.{◌≡◌, ◌∙◌, List, [], ◌∷◌, ◌++◌, Option, refl, sym, ap, subst, append-nil, append_assoc}
+use Rattle.std.proofs.Common.{◌∙◌, List, [], ◌∷◌, ◌++◌, Option, refl, sym, ap, subst, append-nil, append_assoc}
 use Rattle.job_facts.specs.Contents.{AreSame, AreSound, Contents}
 use Rattle.job_facts.specs.Reopening.{OpensWith}
 use Rattle.job_facts.specs.Store.{IsFound, IsHonest, State}
