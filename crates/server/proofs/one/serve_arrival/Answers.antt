@@ -9,6 +9,10 @@ returns-in-Ok g c =
     let handled = c.in-Ok.ensures.handled in (
       t.0,
       t.1,
-      record { does = (Ok c.in-Ok.kept, handled, refl);
-        answered = λ h d held. inl (refl, subst (λ (http_reply : HttpReply). IsWritten c.send_kept.result (http_reply_text http_reply) t.0) (sym (handled.reply_is h d held)) t.2); fixed = λ none d. absurd none; next = λ d held decided first. c.in-Ok.ensures.next d held },
+      record {
+        does = (Ok c.in-Ok.kept, handled, refl);
+        answered = λ h d held. inl (refl, subst (λ (http_reply : HttpReply). IsWritten c.send_kept.result (http_reply_text http_reply) t.0) (sym (handled.reply_is h d held)) t.2);
+        fixed = λ none d. absurd none;
+        next = λ d held decided first. c.in-Ok.ensures.next d held;
+      },
     )
