@@ -1,5 +1,6 @@
 -- The state of a store, and the effect of its calls on this state.
-use Rattle.std.specs.Prelude.{◌≡◌, ◌⊎◌, ◌≤◌, ◌+◌, ◌-◌, ◌^◌, ℕ, Bool, false, true, List, [], ◌∷◌, ◌++◌, min, Option, None, Some, Result, Ok, Err, IfOk, OnOk, OnErr}
+use Rattle.std.specs.Prelude.{◌≡◌, ◌⊎◌, ◌≤◌, ◌+◌, ◌-◌, ◌^◌, ℕ, Bool, false, true, List, [], ◌∷◌, ◌++◌, min, Option, None, Some, Result, Ok, Err, IfOk, IfErr, OnOk, OnErr}
+use Rattle.job_facts.specs.declared.failed.Failed.{Failed}
 use Rattle.job_facts.specs.declared.store.StoreFault.{StoreFault}
 use Rattle.job_facts.specs.declared.store.StoreFault.TheVariants.{Memory, Device, Full}
 use Rattle.job_facts.specs.Contents.{AreSame, Contents, Entry}
@@ -111,3 +112,12 @@ pub record Commits (old new : State) (result : Result (Unit {0}) StoreFault) (e 
   -- line `e`.
   pub covered : IsHonest new → (c : Contents) (d : Option Contents) → old.holds c → Owed c → new.may_leave d → (l : Log) → old.log l
       → old.may_leave d ⊎ (IsFound d (after c) × ((m : Log) × new.log m × (m.lines ≡ l.lines ++ e ∷ [])))
+
+-- the result of a commit or a release, with only the reason of a failure
+abbrev pub with_fault : {E : Type 0} → Result (Unit {0}) (Failed E) → Result (Unit {0}) E
+with_fault (Ok x) = Ok x
+with_fault (Err failed) = Err failed.fault
+
+-- After a failure that is undone, the call has added no possible result of an open after a crash.
+abbrev pub AddsNoneIfUndone : State → State → Result (Unit {0}) (Failed StoreFault) → Type 0
+AddsNoneIfUndone old new result = IfErr result (λ (failed : Failed StoreFault). failed.undone ≡ true → IsHonest new → (d : Option Contents) → new.may_leave d → old.may_leave d)

@@ -5,6 +5,7 @@
 mod change;
 mod entry;
 mod facts;
+mod failed;
 mod lots;
 mod refusal;
 mod reopen;
@@ -17,6 +18,7 @@ mod store;
 pub use change::{Change, NewBatch, NewSession, NewWord};
 pub use entry::Entry;
 pub use facts::{Lot, RecordState, SessionState};
+pub use failed::Failed;
 pub use lots::{any_overlaps, lot_among};
 pub use refusal::{MACHINE_BUSY, NUMBER_RELEASED, Refusal};
 pub use reopen::Reopen;

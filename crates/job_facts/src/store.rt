@@ -4,6 +4,7 @@ ghost use Rattle.std.specs.Prelude.{◌≡◌};
 use crate::change::Change;
 use crate::entry::Entry;
 use crate::facts::{Lot, RecordState};
+use crate::failed::Failed;
 use crate::rows::{
     BatchRow, BatchSize, BatchTotals, BlankTotals, KeptReply, RecordLine, SegmentRow, SessionRow,
 };
@@ -59,7 +60,8 @@ pub trait JobStore {
     ghost use Rattle.job_facts.specs.States.{any_overlaps, first_waiting, is_batch_finished};
     ghost use Rattle.job_facts.specs.States.{is_charged, lot_named, lot_of, product_named};
     ghost use Rattle.job_facts.specs.States.{record_state_of, running_session};
-    ghost use Rattle.job_facts.specs.Store.{Commits, CountsFaults, LeavesContents, Reads, State};
+    ghost use Rattle.job_facts.specs.Store.{AddsNoneIfUndone, Commits, CountsFaults};
+    ghost use Rattle.job_facts.specs.Store.{LeavesContents, Reads, State, with_fault};
 
     /// The contents of the store, its counters, and the contents that an open after a crash may
     /// find.
@@ -219,25 +221,29 @@ pub trait JobStore {
     /// Stores a change and the reply to its request in one transaction.
     ///
     /// If the call fails, the contents of the store are unchanged. An open after a crash then finds
-    /// what it could find before the call, or the contents with the change and the reply.
-    fn commit(&mut self, entry: &Entry<'_>, change: &Change<'_>) -> Result<(), StoreFault>
+    /// what it could find before the call, or, unless the failure is `undone`, the contents with the
+    /// change and the reply.
+    fn commit(&mut self, entry: &Entry<'_>, change: &Change<'_>) -> Result<(), Failed<StoreFault>>
         requires most { entry.now.number < 10 ^ 18 }
         ensures all_or_nothing { let kept = kept_reply entry.now in
-            Commits (state self.old) (state self.new) result kept (IsOwed change.now kept)
-            (λ c. committed c change.now kept) }
-        ensures faults { CountsFaults (state self.old) (state self.new) result };
+            Commits (state self.old) (state self.new) (with_fault result) kept
+            (IsOwed change.now kept) (λ c. committed c change.now kept) }
+        ensures undone { AddsNoneIfUndone (state self.old) (state self.new) result }
+        ensures faults { CountsFaults (state self.old) (state self.new) (with_fault result) };
 
     /// Stores the release mark `mark` of the client in `entry` and the reply to the release in one
     /// transaction, and deletes the client's kept replies up to the mark.
     ///
     /// If the call fails, the contents of the store are unchanged. An open after a crash then finds
-    /// what it could find before the call, or the contents after the release.
-    fn release(&mut self, entry: &Entry<'_>, mark: u64) -> Result<(), StoreFault>
+    /// what it could find before the call, or, unless the failure is `undone`, the contents after
+    /// the release.
+    fn release(&mut self, entry: &Entry<'_>, mark: u64) -> Result<(), Failed<StoreFault>>
         requires most { entry.now.number < 10 ^ 18 }
         ensures all_or_nothing { let kept = kept_reply entry.now in
-            Commits (state self.old) (state self.new) result kept (IsOwedRelease mark kept)
-            (λ c. released c mark kept) }
-        ensures faults { CountsFaults (state self.old) (state self.new) result };
+            Commits (state self.old) (state self.new) (with_fault result) kept
+            (IsOwedRelease mark kept) (λ c. released c mark kept) }
+        ensures undone { AddsNoneIfUndone (state self.old) (state self.new) result }
+        ensures faults { CountsFaults (state self.old) (state self.new) (with_fault result) };
 
     /// The contents of the store are sound.
     ghost sound: { (store : Self) (c : Contents) → (state store).holds c → AreSound c };
