@@ -15,7 +15,7 @@ use Rattle.http_messages.specs.declared.message.Reading.TheVariants as reading
 use Rattle.http_messages.specs.declared.fixed.FixedReply.{FixedReply}
 use Rattle.http_messages.specs.declared.fixed.FixedReply.TheVariants.{HeadTooLarge}
 use Rattle.http_messages.specs.Heads.{HeadParts, IsJudged, ends_head, head_end}
-use Rattle.http_messages.specs.Messages.{Agrees, Brings, Broken, Heard, IsBody, IsFilled, IsHeardAs, IsHeardBy, IsReading, IsReadingAfter, IsReadingBy, Refused, after_head, as_parts, end_of_head}
+use Rattle.http_messages.specs.Messages.{Agrees, Brings, Broken, HasHead, Heard, IsBody, IsFilled, IsHeardAs, IsHeardBy, IsReading, IsReadingAfter, IsReadingBy, Refused, after_head, as_parts, end_of_head}
 use Rattle.http_messages.proofs.AloneLemmas.{heard_as}
 use Rattle.http_messages.proofs.EndLemmas.{least_alike, least_stays, size_kept}
 
@@ -54,11 +54,17 @@ end_stays front more end few found =
     ap head_end whole
     ∙ least_stays (ends_head (front ++ t)) (length front) (length (front ++ t)) end (omega (arith, length-append front t)) (sym (least_alike front (front ++ t) (length front) same) ∙ found)
 
-pub heard_broken : (before : Option (List ℕ)) → IfSome before (λ all. (length all < 8192) × (head_end all ≡ None)) → (bytes : List ℕ) × Agrees before bytes × IsHeardAs bytes Broken
-heard_broken None early = ([], tt, by_end [] None Broken refl refl)
-heard_broken (Some all) early =
+-- bytes in which no head ends don't start with a complete head
+no_head : (is_cut : Bool) (bytes : List ℕ) → end_of_head bytes ≡ None → HasHead bytes → is_cut ≡ false
+no_head is_cut bytes none has = let bad : None ≡ Some has.0 = sym none ∙ has.2 in cc
+
+pub heard_broken : (is_cut : Bool) (before : Option (List ℕ)) → IfSome before (λ all. (length all < 8192) × (head_end all ≡ None))
+    → (bytes : List ℕ) × Agrees before bytes × IsReading bytes is_cut reading.Broken
+heard_broken is_cut None early = ([], tt, (by_end [] None Broken refl refl, no_head is_cut [] refl))
+heard_broken is_cut (Some all) early =
     let same : take 8192 all ≡ all = take_all 8192 all (omega (arith, early.0)) in
-    (all, refl, by_end all None Broken (ap head_end same ∙ early.1) (grind (arith, nat_tests, early.0)))
+    let none : end_of_head all ≡ None = ap head_end same ∙ early.1 in
+    (all, refl, (by_end all None Broken none (grind (arith, nat_tests, early.0)), no_head is_cut all none))
 
 pub heard_large : (before after : Option (List ℕ)) (buf : List ℕ) → length buf ≡ 8192 → Consumes before after buf → head_end buf ≡ None
     → (bytes : List ℕ) × Agrees before bytes × IsHeardAs bytes (Refused HeadTooLarge)
@@ -71,14 +77,14 @@ heard_large (Some all) (Some more) buf size came none =
     (all, refl, by_end all None (Refused HeadTooLarge) (ap head_end front ∙ none) (grind (arith, nat_tests, many)))
 
 -- the result of reading the bytes after the head is the result of reading all bytes
-pub read_after : (bytes head rest : List ℕ) (end : ℕ) (r : Reading) → end_of_head bytes ≡ Some end → take end bytes ≡ head → drop end bytes ≡ rest → IsReadingAfter head rest r → IsReading bytes r
-read_after bytes head rest end (reading.Message m) is front back after =
+pub read_after : (is_cut : Bool) (bytes head rest : List ℕ) (end : ℕ) (r : Reading) → end_of_head bytes ≡ Some end → take end bytes ≡ head → drop end bytes ≡ rest → IsReadingAfter head rest is_cut r → IsReading bytes is_cut r
+read_after is_cut bytes head rest end (reading.Message m) is front back after =
     by_end bytes (Some end) (Brings (as_parts m)) is (after.0, subst (λ (h : List ℕ). IsJudged h after.0) (sym front) after.1, sym after.2 ∙ ap (after_head after.0) (sym back))
-read_after bytes head rest end reading.Broken is front back after =
-    by_end bytes (Some end) Broken is (after.0, subst (λ (h : List ℕ). IsJudged h after.0) (sym front) after.1, sym after.2 ∙ ap (after_head after.0) (sym back))
-read_after bytes head rest end (reading.Refused why) is front back after =
+read_after is_cut bytes head rest end reading.Broken is front back after =
+    (by_end bytes (Some end) Broken is (after.0, subst (λ (h : List ℕ). IsJudged h after.0) (sym front) after.1, sym after.2.0 ∙ ap (after_head after.0) (sym back)), λ _. after.2.1)
+read_after is_cut bytes head rest end (reading.Refused why) is front back after =
     by_end bytes (Some end) (Refused why) is (after.0, subst (λ (h : List ℕ). IsJudged h after.0) (sym front) after.1, sym after.2 ∙ ap (after_head after.0) (sym back))
-read_after bytes head rest end reading.Memory is front back after =
+read_after is_cut bytes head rest end reading.Memory is front back after =
     let passes : IsJudged (take end bytes) after.0 = subst (λ (h : List ℕ). IsJudged h after.0) (sym front) after.1 in
     let p = after.2.0 in
     let passed : IsJudged (take end bytes) (Ok p) = subst (IsJudged (take end bytes)) after.2.1 passes in
@@ -87,10 +93,10 @@ read_after bytes head rest end reading.Memory is front back after =
 
 -- the same result, if the head and the first bytes of the body are in `buf`, and the rest of the
 -- body is read later
-pub heard_head : (before after : Option (List ℕ)) (buf : List ℕ) (end filled : ℕ) (r : Reading) → length buf ≡ 8192 → end ≤ filled → filled ≤ 8192 → Consumes before after (take filled buf)
-    → head_end (take filled buf) ≡ Some end → ((more : List ℕ) × Agrees after more × IsReadingAfter (take end buf) (take (filled - end) (drop end buf) ++ more) r)
-    → (bytes : List ℕ) × Agrees before bytes × IsReading bytes r
-heard_head before after buf end filled r size within few came found read =
+pub heard_head : (was_cut is_cut : Bool) (before after : Option (List ℕ)) (buf : List ℕ) (end filled : ℕ) (r : Reading) → is_cut ≡ was_cut → length buf ≡ 8192 → end ≤ filled → filled ≤ 8192 → Consumes before after (take filled buf)
+    → head_end (take filled buf) ≡ Some end → ((more : List ℕ) × Agrees after more × IsReadingAfter (take end buf) (take (filled - end) (drop end buf) ++ more) is_cut r)
+    → (bytes : List ℕ) × Agrees before bytes × IsReading bytes was_cut r
+heard_head was_cut is_cut before after buf end filled r kept size within few came found read =
     let front = take filled buf in
     let bytes = front ++ read.0 in
     let long : length front ≡ filled = length-take-le filled buf (omega (arith, few, size)) in
@@ -98,8 +104,8 @@ heard_head before after buf end filled r size within few came found read =
     let all : filled ≡ end + (filled - end) = omega (arith, within) in
     let begun : drop end front ≡ take (filled - end) (drop end buf) = ap (λ (n : ℕ). drop end (take n buf)) all ∙ drop-take end (filled - end) buf in
     let back : drop end bytes ≡ take (filled - end) (drop end buf) ++ read.0 = drop-append-le end front read.0 (omega (arith, long, within)) ∙ ap (λ (l : List ℕ). l ++ read.0) begun in
-    let is : IsReading bytes r = read_after bytes (take end buf) (take (filled - end) (drop end buf) ++ read.0) end r (end_stays front read.0 end (omega (arith, long, few)) found) head back read.2 in
-    (bytes, given before after front read.0 came read.1, is)
+    let is : IsReading bytes is_cut r = read_after is_cut bytes (take end buf) (take (filled - end) (drop end buf) ++ read.0) end r (end_stays front read.0 end (omega (arith, long, few)) found) head back read.2 in
+    (bytes, given before after front read.0 came read.1, subst (λ (b : Bool). IsReading bytes b r) kept is)
 
 -- ---- the body
 
@@ -168,15 +174,16 @@ pub some_bytes : (known : Option (List ℕ)) → (more : List ℕ) × Agrees kno
 some_bytes None = ([], tt)
 some_bytes (Some all) = (all, refl)
 
-pub rest_refused : (known : Option (List ℕ)) (head begun : List ℕ) (judged : Result HeadParts FixedReply) (why : FixedReply) → IsJudged head judged → judged ≡ Err why
-    → (more : List ℕ) × Agrees known more × IsReadingAfter head (begun ++ more) (reading.Refused why)
-rest_refused known head begun judged why is refused =
+pub rest_refused : (is_cut : Bool) (known : Option (List ℕ)) (head begun : List ℕ) (judged : Result HeadParts FixedReply) (why : FixedReply) → IsJudged head judged → judged ≡ Err why
+    → (more : List ℕ) × Agrees known more × IsReadingAfter head (begun ++ more) is_cut (reading.Refused why)
+rest_refused is_cut known head begun judged why is refused =
     let some = some_bytes known in
     (some.0, some.1, (Err why, subst (IsJudged head) refused is, refl))
 
-pub rest_read : {E : Type 0} (known : Option (List ℕ)) (head begun : List ℕ) (size : ℕ) (judged : Result HeadParts FixedReply) (read : Result (Option (List ℕ)) E) (body : Option (List ℕ)) (out : Reading)
-    → IsJudged head judged → read ≡ Ok body → ((more : List ℕ) × Agrees known more × IfOk read (IsBody size (begun ++ more))) → ((rest : List ℕ) → IsBody size rest body → IsReadingBy judged rest out)
-    → (more : List ℕ) × Agrees known more × IsReadingAfter head (begun ++ more) out
-rest_read {E = E} known head begun size judged read body out is here begins next =
+pub rest_read : {E : Type 0} (was_cut is_cut : Bool) (known : Option (List ℕ)) (head begun : List ℕ) (size : ℕ) (judged : Result HeadParts FixedReply) (read : Result (Option (List ℕ)) E) (body : Option (List ℕ)) (out : Reading)
+    → is_cut ≡ was_cut → IsJudged head judged → read ≡ Ok body → ((more : List ℕ) × Agrees known more × IfOk read (IsBody size (begun ++ more))) → ((rest : List ℕ) → IsBody size rest body → IsReadingBy judged rest is_cut out)
+    → (more : List ℕ) × Agrees known more × IsReadingAfter head (begun ++ more) was_cut out
+rest_read {E = E} was_cut is_cut known head begun size judged read body out kept is here begins next =
     let more = begins.0 in
-    (more, begins.1, (judged, is, next (begun ++ more) (subst (λ (r : Result (Option (List ℕ)) E). IfOk r (IsBody size (begun ++ more))) here begins.2)))
+    let by : IsReadingBy judged (begun ++ more) is_cut out = next (begun ++ more) (subst (λ (r : Result (Option (List ℕ)) E). IfOk r (IsBody size (begun ++ more))) here begins.2) in
+    (more, begins.1, (judged, is, subst (λ (b : Bool). IsReadingBy judged (begun ++ more) b out) kept by))

@@ -55,12 +55,13 @@ abbrev pub as_parts : Message → MessageParts
 as_parts m = record { method = m.method; target = m.target; body = m.body }
 
 -- the result is the only meaning of `bytes`, or out of memory after a head that passes its tests;
--- even then `bytes` has a meaning
-abbrev pub IsReading : List ℕ → Reading → Type 0
-IsReading bytes (reading.Message m) = IsHeardAs bytes (Brings (as_parts m))
-IsReading bytes reading.Broken = IsHeardAs bytes Broken
-IsReading bytes (reading.Refused why) = IsHeardAs bytes (Refused why)
-IsReading bytes reading.Memory = HasHead bytes × ((h : Heard) × IsHeardAs bytes h)
+-- even then `bytes` has a meaning. If further bytes were lost (`is_cut`), it is not `Broken` after
+-- such a head.
+abbrev pub IsReading : List ℕ → Bool → Reading → Type 0
+IsReading bytes is_cut (reading.Message m) = IsHeardAs bytes (Brings (as_parts m))
+IsReading bytes is_cut reading.Broken = IsHeardAs bytes Broken × (HasHead bytes → is_cut ≡ false)
+IsReading bytes is_cut (reading.Refused why) = IsHeardAs bytes (Refused why)
+IsReading bytes is_cut reading.Memory = HasHead bytes × ((h : Heard) × IsHeardAs bytes h)
 
 -- ---- intermediate results
 
@@ -74,12 +75,13 @@ abbrev pub IsFilled : List ℕ → List ℕ → Bool → Type 0
 IsFilled body rest true = (length body ≤ length rest) × (body ≡ take (length body) rest)
 IsFilled body rest false = length rest < length body
 
--- the result of reading `rest` after a head with the test result `judged`
-abbrev pub IsReadingBy : Result HeadParts FixedReply → List ℕ → Reading → Type 0
-IsReadingBy judged rest (reading.Message m) = after_head judged rest ≡ Brings (as_parts m)
-IsReadingBy judged rest reading.Broken = after_head judged rest ≡ Broken
-IsReadingBy judged rest (reading.Refused why) = after_head judged rest ≡ Refused why
-IsReadingBy judged rest reading.Memory = (p : HeadParts) × (judged ≡ Ok p)
+-- the result of reading `rest` after a head with the test result `judged`, if further bytes were
+-- lost (`is_cut`) or not
+abbrev pub IsReadingBy : Result HeadParts FixedReply → List ℕ → Bool → Reading → Type 0
+IsReadingBy judged rest is_cut (reading.Message m) = after_head judged rest ≡ Brings (as_parts m)
+IsReadingBy judged rest is_cut reading.Broken = (after_head judged rest ≡ Broken) × (is_cut ≡ false)
+IsReadingBy judged rest is_cut (reading.Refused why) = after_head judged rest ≡ Refused why
+IsReadingBy judged rest is_cut reading.Memory = (p : HeadParts) × (judged ≡ Ok p)
 
-abbrev pub IsReadingAfter : List ℕ → List ℕ → Reading → Type 0
-IsReadingAfter head rest result = (judged : Result HeadParts FixedReply) × IsJudged head judged × IsReadingBy judged rest result
+abbrev pub IsReadingAfter : List ℕ → List ℕ → Bool → Reading → Type 0
+IsReadingAfter head rest is_cut result = (judged : Result HeadParts FixedReply) × IsJudged head judged × IsReadingBy judged rest is_cut result

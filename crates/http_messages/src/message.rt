@@ -1,5 +1,5 @@
 //! Reads messages, which consist of a head and a body.
-ghost use Rattle.std.specs.Prelude.{◌≡◌, ◌++◌, ℕ, List, IfOk, Ok, length};
+ghost use Rattle.std.specs.Prelude.{◌≡◌, ◌++◌, ℕ, List, IfOk, None, Ok, if◌then◌else◌, length};
 ghost use Rattle.http_messages.specs.HeadTests.{parts};
 ghost use Rattle.http_messages.specs.Messages.{IsBody, IsFilled, IsReading, IsReadingAfter};
 ghost use Rattle.http_messages.specs.Messages.{IsReadingBy};
@@ -38,8 +38,12 @@ pub enum Reading {
 
 /// Reads one message (RFC 9112 section 2.1). Its bytes may arrive in pieces of any size, and bytes
 /// after it are ignored. Allocates nothing before the head has passed its tests.
+///
+/// If bytes after a head that passes its tests were lost because an allocation failed, the result
+/// is never `Broken`. If the head is incomplete, the result is `Broken` even if bytes were lost.
 pub fn read_message<I: ByteSource>(alloc: Global, incoming: &mut I) -> Reading
-    ensures { (bytes : List ℕ) × Agrees (I.brings incoming.old) bytes × IsReading bytes result }
+    ensures { (bytes : List ℕ) × Agrees (I.brings incoming.old) bytes
+        × IsReading bytes (I.cut incoming.old) result }
 {
     let mut buf = [0; 8192];
     match read_head(incoming, &mut buf) {
@@ -52,25 +56,31 @@ pub fn read_message<I: ByteSource>(alloc: Global, incoming: &mut I) -> Reading
 // Tests `head`, and reads the body after it. The bytes `begun` after the head were read with it.
 fn read_rest<I: ByteSource>(alloc: Global, incoming: &mut I, head: &[u8], begun: &[u8]) -> Reading
     ensures { (more : List ℕ) × Agrees (I.brings incoming.old) more
-        × IsReadingAfter head.now (begun.now ++ more) result }
+        × IsReadingAfter head.now (begun.now ++ more) (I.cut incoming.old) result }
 {
     match judge(head) {
         Ok(head) => match read_body(alloc, incoming, head.size, begun) {
-            Ok(body) => with_body(alloc, head, body, incoming.is_cut()),
+            Ok(body) => with_body(alloc, incoming, head, body),
             Err(_) => Reading::Memory,
         },
         Err(why) => Reading::Refused(why),
     }
 }
 
-// Returns the message with this head and body. `body` is `None` if too few bytes were read, and
-// `is_cut` is `true` if bytes were lost because an allocation failed.
-fn with_body(alloc: Global, head: HeadParts<'_>, body: Option<Bytes>, is_cut: bool) -> Reading
-    ensures { (rest : List ℕ) → IsBody head.entry.size rest body
-        → IsReadingBy (parts (Ok head.entry)) rest result }
+// Returns the message with this head and body. `body` is `None` if too few bytes were read.
+fn with_body<I: ByteSource>(
+    alloc: Global,
+    incoming: &I,
+    head: HeadParts<'_>,
+    body: Option<Bytes>,
+) -> Reading
+    ensures read { (rest : List ℕ) → IsBody head.entry.size rest body
+        → IsReadingBy (parts (Ok head.entry)) rest (I.cut incoming.now) result }
+    ensures early { body ≡ None
+        → result ≡ (if I.cut incoming.now then Reading.Memory else Reading.Broken) }
 {
     let Some(body) = body else {
-        return if is_cut {
+        return if incoming.is_cut() {
             Reading::Memory
         } else {
             Reading::Broken
@@ -108,8 +118,9 @@ fn read_body<I: ByteSource>(
     size: usize,
     begun: &[u8],
 ) -> Result<Option<Bytes>, AllocError>
-    ensures { (more : List ℕ) × Agrees (I.brings incoming.old) more
+    ensures body { (more : List ℕ) × Agrees (I.brings incoming.old) more
         × IfOk result (IsBody size (begun.now ++ more)) }
+    ensures cut { I.cut incoming.new ≡ I.cut incoming.old }
 {
     let mut body = vec![in alloc; 0; size]?;
     if bring_body(incoming, begun, &mut body) {
@@ -125,6 +136,7 @@ fn bring_body<I: ByteSource>(incoming: &mut I, begun: &[u8], body: &mut [u8]) ->
     ensures size { length body.new ≡ length body.old }
     ensures filled { (more : List ℕ) × Agrees (I.brings incoming.old) more
         × IsFilled body.new (begun.now ++ more) result }
+    ensures cut { I.cut incoming.new ≡ I.cut incoming.old }
 {
     let begun = &begun[..body.len().min(begun.len())];
     body[..begun.len()].copy_from_slice(begun);

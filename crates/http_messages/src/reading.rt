@@ -21,7 +21,8 @@ pub(crate) enum Reach {
 
 /// Reads into `buf` until it contains the end of the head. Allocates nothing.
 pub(crate) fn read_head<I: ByteSource>(incoming: &mut I, buf: &mut [u8; 8192]) -> Reach
-    ensures { Reaches (I.brings incoming.old) (I.brings incoming.new) buf.new result }
+    ensures head { Reaches (I.brings incoming.old) (I.brings incoming.new) buf.new result }
+    ensures cut { I.cut incoming.new ≡ I.cut incoming.old }
 {
     let mut filled = 0;
     while filled < buf.len() {
@@ -60,6 +61,7 @@ pub(crate) fn fill<I: ByteSource>(incoming: &mut I, buf: &mut [u8]) -> bool
         (Consumes (I.brings incoming.old) (I.brings incoming.new) buf.new) }
     ensures early { OnFalse result ((more : List ℕ) × Agrees (I.brings incoming.old) more
         × (length more < length buf.new)) }
+    ensures cut { I.cut incoming.new ≡ I.cut incoming.old }
 {
     let mut at = 0;
     while at < buf.len() {

@@ -6,8 +6,8 @@ use borrow.Rule.Slice.PartMut.{put_mid}
 use Rattle.http_messages.proofs.EndLemmas.{broken, front_kept, none_at_all, none_before, none_so_far, size_kept, take_filled}
 use Rattle.http_messages.proofs.reading.read_head.Goals as goal
 
-pub returns-then-count-eq0 : goal.returns-then-count-eq0
-returns-then-count-eq0 g c =
+pub returns-then-count-eq0-clause-head : goal.returns-then-count-eq0-clause-head
+returns-then-count-eq0-clause-head g c =
     let brings = g.I.ByteSource.brings in
     let l = c.loop-filled in
     broken (brings c.args.incoming.now) (brings l.incoming) l.buf l.filled (omega (arith, l.invariant.size, l.invariant.within)) (omega (arith, c.loop-filled-test.true, l.invariant.size)) l.invariant.came
@@ -18,8 +18,8 @@ find_end-requires-clause-before g c =
     let l = c.loop-filled in
     none_before l.filled c.bring-count.result l.buf _ (front_kept l.filled 8192 l.buf c.bring-count.new.buf l.invariant.size l.invariant.within) l.invariant.none
 
-pub returns-in-Some : goal.returns-in-Some
-returns-in-Some g c =
+pub returns-in-Some-clause-head : goal.returns-in-Some-clause-head
+returns-in-Some-clause-head g c =
     let brings = g.I.ByteSource.brings in
     let l = c.loop-filled in
     let came = subst (Consumes (brings c.args.incoming.now) (brings c.bring-count.new.self)) (sym (take_filled l.filled c.bring-count.result 8192 l.buf c.bring-count.new.buf l.invariant.size l.invariant.within c.bring-count.ensures.count))
@@ -39,12 +39,13 @@ loop-filled-preserved g c =
     record {
       size = size;
       within = few;
+      cut = c.bring-count.ensures.cut ∙ l.invariant.cut;
       came = came;
       none = none_so_far _ (l.filled + c.bring-count.result) (omega (arith, size, few)) (sym c.find_end.ensures.first ∙ c.in_default.is);
     }
 
-pub returns : goal.returns
-returns g c =
+pub returns-clause-head : goal.returns-clause-head
+returns-clause-head g c =
     let brings = g.I.ByteSource.brings in
     let l = c.loop-filled in
     let over : length c.loop-filled.buf ≤ c.loop-filled.filled = omega (arith, c.loop-filled-test.false, c.loop-filled.invariant.size) in

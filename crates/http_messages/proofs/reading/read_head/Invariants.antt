@@ -7,6 +7,7 @@ abbrev pub invariant-loop-filled : goal.invariant-loop-filled
 invariant-loop-filled g l = record {
   size : length l.buf ≡ 8192;
   within : l.filled ≤ 8192;
+  cut : g.I.ByteSource.cut l.incoming ≡ g.I.ByteSource.cut l.fn.incoming;
   came : Consumes (g.I.ByteSource.brings l.fn.incoming) (g.I.ByteSource.brings l.incoming) (take l.filled l.buf);
   none : least (ends_head l.buf) l.filled ≡ None;
 }
