@@ -1,8 +1,10 @@
 -- The received bytes of a connection, and the state of its message (this project's profile).
-use Rattle.std.specs.Prelude.{◌≡◌, ℕ, [], ◌++◌, ◌||◌, ◌&&◌, ◌==◌, not, drop, length, Bool, true, false, List, is_some}
+use Rattle.std.specs.Prelude.{◌≡◌, ℕ, [], ◌++◌, ◌||◌, ◌&&◌, ◌==◌, not, drop, length, Bool, true, false, List, Option, None, Some, is_some}
 use Rattle.http_messages.specs.declared.settled.Progress.{Progress}
 use Rattle.http_messages.specs.declared.settled.Progress.TheVariants.{Head, Body, Message, Refused}
 use Rattle.loopback.specs.declared.arrived.Arrived.{Arrived}
+use Rattle.loopback.specs.declared.arrived.Stop.{Stop}
+use Rattle.loopback.specs.declared.arrived.Stop.TheVariants.{Ended, Late, Memory}
 
 -- the received bytes of `a`
 abbrev pub bytes_of : Arrived → List ℕ
@@ -29,6 +31,13 @@ is_complete a = is_message a.progress
 -- the message of `a` is decided, or no more of its bytes are read
 abbrev pub is_settled : Arrived → Bool
 is_settled a = is_decided a.progress || is_some a.stop
+
+-- the reading stopped because an allocation failed, so that later bytes are lost
+abbrev pub is_cut_by : Option Stop → Bool
+is_cut_by None = false
+is_cut_by (Some Ended) = false
+is_cut_by (Some Late) = false
+is_cut_by (Some Memory) = true
 
 -- no bytes of `a` were received, and some may still arrive
 abbrev pub is_silent : Arrived → Bool

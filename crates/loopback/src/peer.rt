@@ -60,9 +60,11 @@ impl PeerReader {
 
 impl ByteSource for PeerReader {
     ghost use Rattle.std.specs.Prelude.{Some, drop};
-    ghost use Rattle.loopback.specs.Arriving.{bytes_of};
+    ghost use Rattle.loopback.specs.Arriving.{bytes_of, is_cut_by};
 
     ghost brings = { λ r. Some (drop r.at (bytes_of r.arrived)) };
+
+    ghost cut = { λ r. is_cut_by r.arrived.stop };
 
     fn bring(&mut self, buf: &mut [u8]) -> usize {
         // The number of received bytes is a `usize`, so `at + count` also fits into one.

@@ -26,10 +26,12 @@ impl MemoryReader {
 }
 
 impl ByteSource for MemoryReader {
-    ghost use Rattle.std.specs.Prelude.{Some};
+    ghost use Rattle.std.specs.Prelude.{Some, false};
     ghost use Rattle.server.specs.Memory.{bytes_left};
 
     ghost brings = { λ r. Some (bytes_left r) };
+
+    ghost cut = { λ _. false };
 
     fn bring(&mut self, buf: &mut [u8]) -> usize {
         let mut count = 0;
@@ -39,6 +41,10 @@ impl ByteSource for MemoryReader {
             count += 1;
         }
         count
+    }
+
+    fn is_cut(&self) -> bool {
+        false
     }
 }
 

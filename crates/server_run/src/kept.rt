@@ -71,6 +71,8 @@ impl<I: ByteSource, K: Start> KeepingReader<I, K> {
 impl<I: ByteSource, K: Start> ByteSource for KeepingReader<I, K> {
     ghost brings = { λ r. I.brings r.inner };
 
+    ghost cut = { λ r. I.cut r.inner };
+
     fn bring(&mut self, buf: &mut [u8]) -> usize {
         let count = self.inner.bring(buf);
         self.first.add(&buf[..count]);

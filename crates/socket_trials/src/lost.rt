@@ -14,9 +14,11 @@ struct Shortened<'a> {
 }
 
 impl ByteSource for Shortened<'_> {
-    ghost use Rattle.std.specs.Prelude.{None};
+    ghost use Rattle.std.specs.Prelude.{None, true};
 
     ghost brings = { λ _. None };
+
+    ghost cut = { λ _. true };
 
     fn bring(&mut self, buf: &mut [u8]) -> usize {
         self.first.bring(buf)

@@ -22,9 +22,11 @@ impl<'a> Failing<'a> {
 }
 
 impl ByteSource for Failing<'_> {
-    ghost use Rattle.std.specs.Prelude.{None};
+    ghost use Rattle.std.specs.Prelude.{None, false};
 
     ghost brings = { λ _. None };
+
+    ghost cut = { λ _. false };
 
     fn bring(&mut self, buf: &mut [u8]) -> usize {
         if self.has_failed {
@@ -33,6 +35,10 @@ impl ByteSource for Failing<'_> {
         let count = self.front.bring(buf);
         self.has_failed = count == 0;
         count
+    }
+
+    fn is_cut(&self) -> bool {
+        false
     }
 }
 
@@ -55,13 +61,19 @@ impl<'a> Counted<'a> {
 }
 
 impl ByteSource for Counted<'_> {
-    ghost use Rattle.std.specs.Prelude.{Some};
+    ghost use Rattle.std.specs.Prelude.{Some, false};
     ghost use Rattle.wire.specs.PieceBytes.{bytes_of};
 
     ghost brings = { λ c. Some (bytes_of c.pieces) };
 
+    ghost cut = { λ _. false };
+
     fn bring(&mut self, buf: &mut [u8]) -> usize {
         self.asked = self.asked.saturating_add(1);
         self.pieces.bring(buf)
+    }
+
+    fn is_cut(&self) -> bool {
+        self.pieces.is_cut()
     }
 }

@@ -9,7 +9,7 @@ returns-in-Message g c =
     (m.0, m.1, message_means m.0 (as_parts c.in-Message.message) c.meaning_of.result m.2 c.meaning_of.ensures)
 
 pub returns-in-Broken : goal.returns-in-Broken
-returns-in-Broken g c = let m = c.in-Broken.ensures in (m.0, m.1, meant_as m.0 heard.Broken m.2)
+returns-in-Broken g c = let m = c.in-Broken.ensures in (m.0, m.1, meant_as m.0 heard.Broken m.2.0)
 
 pub returns-in-Refused : goal.returns-in-Refused
 returns-in-Refused g c = let m = c.in-Refused.ensures in (m.0, m.1, meant_as m.0 (heard.Refused c.in-Refused.why) m.2)
