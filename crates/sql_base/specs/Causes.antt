@@ -15,6 +15,6 @@ HasCause old new e = IsTrue (is_disk_error e) → MoreFaults old.faults new.faul
 abbrev pub ReportsCause : {X : Type 0} → State → State → Result X Error → Type 0
 ReportsCause old new result = IfErr result (HasCause old new)
 
--- The error has a cause in some state during the call, and no fault after that state is forgotten.
+-- The error has a cause in some state, and no fault after that state is forgotten.
 abbrev pub HadCause : {S : Type 0} → Ghosts S → State → State → Error → Type 0
 HadCause {S} g old new e = (moment : Held S) × HasCause old (state g moment) e × ((state g moment).faults ≤ new.faults)
