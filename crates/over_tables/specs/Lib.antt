@@ -3,4 +3,3 @@ pub mod Drills
 pub mod Faults
 pub mod Opens
 pub mod Refusals
-pub mod Stops

@@ -5,7 +5,6 @@
 mod cause;
 mod drilling;
 mod fault;
-pub mod laws;
 mod opening;
 mod serving;
 

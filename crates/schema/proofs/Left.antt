@@ -1,5 +1,5 @@
 -- Lemmas about opening a database from the trees that a crash left.
-use Rattle.std.proofs.Common.{◌≡◌, ◌≢◌, ◌∙◌, ◌⊎◌, Option, None, Some, Result, Ok, Err, IfErr, IfOk, IsTrue, inl, inr, refl, sym, ap, subst}
+use Rattle.std.proofs.Common.{◌≡◌, ◌≢◌, ◌∙◌, ◌⊎◌, Option, None, Some, IsTrue, inl, inr, refl, sym, ap, subst}
 use Rattle.sqlite.specs.Effect.{Database}
 use Rattle.sqlite.specs.Held.{Held, state}
 use Rattle.sqlite.specs.Schema.{Schema}
@@ -7,10 +7,9 @@ use Rattle.sqlite.specs.State.{HasCleanDisk, IsLive, State, Survives}
 use Rattle.sqlite.specs.Store.{Ghosts}
 use Rattle.sqlite.specs.Tree.{Trees}
 use Rattle.job_facts.specs.Contents.{AreSame, AreSound, Contents, no_contents}
-use Rattle.job_facts.specs.Reopening.{FindsEither, LeavesOnly, OpensWith, OpensWithEither}
-use Rattle.job_facts.specs.Store as job
+use Rattle.job_facts.specs.Reopening.{LeavesOnly, OpensWith}
 use Rattle.job_facts.specs.Store.{IsFound}
-use Rattle.job_facts.proofs.NextContents.{AreSame-refl, AreSame-trans, nothing_sound}
+use Rattle.job_facts.proofs.NextContents.{AreSame-refl, nothing_sound}
 use Rattle.table_rows.specs.Tables.{Tables}
 use Rattle.image_laws.specs.Image.{image}
 use Rattle.sql_base.specs.Columns.{no_schema}
@@ -26,7 +25,7 @@ use Rattle.adoption.specs.EndsCommitted.{EndsCommitted}
 use Rattle.adoption.specs.declared.faults.OpenFault.{OpenFault}
 use Rattle.adoption.specs.declared.faults.OpenFault.TheVariants as fault
 use Rattle.schema.specs.Begun.{WasHeld}
-use Rattle.schema.specs.Left.{HasEither, IsRefusal, TakesAt}
+use Rattle.schema.specs.Left.{IsRefusal, TakesAt}
 use Rattle.schema.specs.Link.{FindsAtOpen, Has, link}
 use Rattle.schema.proofs.Adopting.{OneLaw, OrderLaw, holds_them, leaves_them, left_late}
 use Rattle.schema.proofs.Link.{RowsLaw, Shows, has_there, shown_at}
@@ -94,10 +93,6 @@ none_at old (fault.Store why) live is_open existing not_ours damaged is some = a
 
 -- ---- after a call that fails
 
-found_as : (d : Option Contents) (b c : Contents) → IsFound d b → AreSame b c → IsFound d c
-found_as None b c found same = found
-found_as (Some x) b c found same = AreSame-trans x b c found same
-
 module _ {S : Type 0} (g : Ghosts S) (law : (s : S) (db : Trees) → IsTrue (g.view s).is_open → g.recovers s db → db ≡ (g.view s).committed) (old : Held S)
     (is_open : IsTrue (state g old).is_open) (settled : IsTrue (state g old).is_open → (state g old).now ≡ (state g old).committed) (live : IsLive (state g old)) where
   -- outside a transaction, a crash leaves the current trees
@@ -106,13 +101,6 @@ module _ {S : Type 0} (g : Ghosts S) (law : (s : S) (db : Trees) → IsTrue (g.v
 
   shown : (d : Option Contents) → (link (state g old) 0 0).may_leave d → Shows d (state g old).now
   shown d left = shown_at d (state g old).now left.0 (live is_open).0 (left_shown left.0 left.1) left.2
-
-  stands_at : (c : Contents) → AreSound c → Has (state g old).now c → FindsAtOpen (Some c) (state g old).now.trees
-  stands_at c sound has = (sound, record { db = (state g old).now; is_database = (live is_open).0; stands = refl; has = has })
-
-  stands_held : (d : Option Contents) (trees : Trees) → FindsAtOpen d trees → WasHeld d (state g old).now → FindsAtOpen d (state g old).now.trees
-  stands_held None trees at was = absurd was
-  stands_held (Some c) trees at was = stands_at c at.0 (inl was)
 
   pub failed_adopt : RowsLaw → OneLaw → OrderLaw → (new : State) → Survives (state g old) new (IsLeft Adopts (state g old)) → HasCleanDisk new
       → (v : Version) (c : Contents) → AreSound c → HoldsRows v (image c) (state g old).now → LeavesOnly (link new 0 0) c
@@ -125,68 +113,3 @@ module _ {S : Type 0} (g : Ghosts S) (law : (s : S) (db : Trees) → IsTrue (g.v
   pub failed_create : (state g old).now.schema ≡ no_schema → (d : Option Contents) → (link (state g old) 0 0).may_leave d ⊎ IsFound d no_contents → IsFound d no_contents
   failed_create empty d (inl before) = shows_nothing (state g old).now empty d (shown d before)
   failed_create empty d (inr found) = found
-
-  -- if an open finds one of two contents, this is still true after a call that fails
-  module _ (new : State) (before after : Contents) (either : HasEither (state g old).now.trees before after) where
-    pub either_adopt : ((d : Option Contents) → (link new 0 0).may_leave d → (link (state g old) 0 0).may_leave d ⊎ WasHeld d (state g old).now) → FindsEither (link new 0 0).may_leave before after
-    either_adopt late d left = elim (late d left) [
-      | inl may ↦ either d (subst (FindsAtOpen d) (left_shown may.0 may.1) may.2)
-      | inr was ↦ either d (stands_held d left.0 left.2 was)
-    ]
-
-    pub either_create : (state g old).now.schema ≡ no_schema → LeavesOnly (link new 0 0) no_contents → FindsEither (link new 0 0).may_leave before after
-    either_create empty leaves d left = elim (either (Some no_contents) (stands_at no_contents nothing_sound (inr (empty, refl)))) [
-      | inl same ↦ inl (found_as d no_contents before (leaves d left) same)
-      | inr same ↦ inr (found_as d no_contents after (leaves d left) same)
-    ]
-
--- ---- after a crash
-
-module _ (trees : Trees) (before after : Contents) (either : HasEither trees before after) where
-  pub either_taken : (store : job.State) → TakesAt trees store → OpensWithEither store before after
-  either_taken store takes = (takes.0, takes.2, either (Some takes.0) takes.1)
-
-  pub never_none : ¬ FindsAtOpen None trees
-  never_none none = elim (either None none) [ inl found ↦ found | inr found ↦ found ]
-
-no_refusal : (e : OpenFault) → e ≢ fault.NotEmpty → ((d : Difference) → e ≢ fault.NotOurs d) → ((d : Damage) → e ≢ fault.Damaged d) → ¬ IsRefusal e
-no_refusal fault.NotEmpty empty ours whole is = empty refl
-no_refusal (fault.NotOurs d) empty ours whole is = ours d refl
-no_refusal (fault.Damaged d) empty ours whole is = whole d refl
-no_refusal (fault.Store why) empty ours whole is = is
-
--- the results of `create` and `adopt` for such a database
-module _ {X Y : Type 0} (opened : State) where
-  pub taken_over : (Clean : X → Type 0) (stands : X → job.State) (r : Result X (Y × OpenFault)) → IfOk r (λ x. Clean x → TakesAt opened.now.trees (stands x))
-      → IfOk r (λ x. Clean x → (before after : Contents) → HasEither opened.now.trees before after → OpensWithEither (stands x) before after)
-  taken_over Clean stands (Ok x) takes = λ clean before after either. either_taken opened.now.trees before after either (stands x) (takes clean)
-  taken_over Clean stands (Err e) takes = tt
-
-  abbrev NeverRefused : (Y × OpenFault → Type 0) → Result X (Y × OpenFault) → Type 0
-  NeverRefused Clean q = IfErr q (λ e. Clean e → IsTrue opened.is_open → (before after : Contents) → HasEither opened.now.trees before after → ¬ IsRefusal e.1)
-
-  pub created_over : (Clean : Y × OpenFault → Type 0) (r : Result X (Y × OpenFault)) → opened.now.schema ≡ no_schema → IfErr r (λ e. e.1 ≡ fault.NotEmpty → opened.now.schema ≢ no_schema)
-      → IfErr r (λ e. (d : Difference) → e.1 ≢ fault.NotOurs d) → IfErr r (λ e. (d : Damage) → e.1 ≢ fault.Damaged d) → NeverRefused Clean r
-  created_over Clean (Ok x) empty full ours whole = tt
-  created_over Clean (Err e) empty full ours whole = λ clean is_open before after either. no_refusal e.1 (λ same. full same empty) ours whole
-
-  pub adopted_over : (Clean : Y × OpenFault → Type 0) (r : Result X (Y × OpenFault)) → opened.now.schema ≢ no_schema
-      → IfErr r (λ e. Clean e → IsTrue opened.is_open → IsRefusal e.1 → opened.now.schema ≢ no_schema → FindsAtOpen None opened.now.trees) → NeverRefused Clean r
-  adopted_over Clean (Ok x) some refuses = tt
-  adopted_over Clean (Err e) some refuses = λ clean is_open before after either refusal. never_none opened.now.trees before after either (refuses clean is_open refusal some)
-
-module _ {S X : Type 0} (g : Ghosts S) (law : (s : S) (db : Trees) → IsTrue (g.view s).is_open → g.recovers s db → db ≡ (g.view s).committed) (old : Held S)
-    (settled : IsTrue (state g old).is_open → (state g old).now ≡ (state g old).committed) (live : IsLive (state g old)) where
-  abbrev FindsStill : Result X (Held S × OpenFault) → Type 0
-  FindsStill r = IfErr r (λ e. HasCleanDisk (state g e.0) → IsTrue (state g old).is_open → (before after : Contents) → HasEither (state g old).now.trees before after
-      → FindsEither (link (state g e.0) 0 0).may_leave before after)
-
-  pub created_still : (r : Result X (Held S × OpenFault)) → (state g old).now.schema ≡ no_schema
-      → IfErr r (λ e. HasCleanDisk (state g e.0) → IsTrue (state g old).is_open → (state g old).now.schema ≡ no_schema → LeavesOnly (link (state g e.0) 0 0) no_contents) → FindsStill r
-  created_still (Ok x) empty leaves = tt
-  created_still (Err e) empty leaves = λ clean is_open before after either. either_create g law old is_open settled live (state g e.0) before after either empty (leaves clean is_open empty)
-
-  pub adopted_still : (r : Result X (Held S × OpenFault))
-      → IfErr r (λ e. HasCleanDisk (state g e.0) → (d : Option Contents) → (link (state g e.0) 0 0).may_leave d → (link (state g old) 0 0).may_leave d ⊎ WasHeld d (state g old).now) → FindsStill r
-  adopted_still (Ok x) late = tt
-  adopted_still (Err e) late = λ clean is_open before after either. either_adopt g law old is_open settled live (state g e.0) before after either (late clean)

@@ -2,7 +2,7 @@
 use Rattle.std.specs.Prelude.{Some}
 use Rattle.sqlite.specs.Tree.{Trees}
 use Rattle.job_facts.specs.Contents.{Contents}
-use Rattle.job_facts.specs.Reopening.{FindsEither, OpensWith}
+use Rattle.job_facts.specs.Reopening.{OpensWith}
 use Rattle.job_facts.specs.Store.{State}
 use Rattle.adoption.specs.declared.faults.OpenFault.{OpenFault}
 use Rattle.adoption.specs.declared.faults.OpenFault.TheVariants as fault
@@ -18,9 +18,3 @@ IsRefusal (fault.Store why) = ⊥
 -- The store is opened with contents that an open finds at `trees`.
 abbrev pub TakesAt : Trees → State → Type 0
 TakesAt trees store = (c : Contents) × FindsAtOpen (Some c) trees × OpensWith store c
-
--- An open of `trees` isn't refused, and finds the contents `before` or `after`. If these are the
--- only contents that a crash may leave, then this is true of all trees that it may leave, by the
--- definition of `link`.
-abbrev pub HasEither : Trees → Contents → Contents → Type 0
-HasEither trees before after = FindsEither (λ d. FindsAtOpen d trees) before after

@@ -6,7 +6,6 @@ mod again;
 mod closing;
 mod faults;
 mod keeping;
-pub mod laws;
 pub mod opening;
 pub mod store;
 
