@@ -2,9 +2,9 @@
 use crate::lists::{FactLists, KeptMark, KeptRow};
 use crate::{accounts, blanks, changes, kept, marks, names, records, segments, sessions, states};
 use job_facts::{
-    BatchRow, BatchSize, BatchTotals, BlankTotals, Change, Entry, FaultCounts, JobStore, KeptReply,
-    Lot, RecordLine, RecordState, SegmentRow, ServerStore, SessionRow, StoreFault, any_overlaps,
-    lot_among,
+    BatchRow, BatchSize, BatchTotals, BlankTotals, Change, Entry, Failed, FaultCounts, JobStore,
+    KeptReply, Lot, RecordLine, RecordState, SegmentRow, ServerStore, SessionRow, StoreFault,
+    any_overlaps, lot_among,
 };
 use std::alloc::Global;
 use store_data::{Name, Product};
@@ -156,7 +156,7 @@ impl JobStore for ListStore {
         Ok(marks::mark_of(&self.marks, client))
     }
 
-    fn commit(&mut self, entry: &Entry<'_>, change: &Change<'_>) -> Result<(), StoreFault> {
+    fn commit(&mut self, entry: &Entry<'_>, change: &Change<'_>) -> Result<(), Failed<StoreFault>> {
         let row = kept::row(self.alloc, entry)?;
         self.kept.reserve(1)?;
         changes::change_facts(self.alloc, &mut self.facts, change)?;
@@ -164,7 +164,7 @@ impl JobStore for ListStore {
         Ok(())
     }
 
-    fn release(&mut self, entry: &Entry<'_>, mark: u64) -> Result<(), StoreFault> {
+    fn release(&mut self, entry: &Entry<'_>, mark: u64) -> Result<(), Failed<StoreFault>> {
         let reply = kept::row(self.alloc, entry)?;
         self.kept.reserve(1)?;
         marks::set_mark(&mut self.marks, entry.client, mark)?;
