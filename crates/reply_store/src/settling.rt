@@ -3,13 +3,13 @@ ghost use Rattle.std.specs.Prelude.{◌≡◌, ◌<◌, ◌^◌, IfOk};
 ghost use Rattle.arrivals.specs.HttpReplies.{body_of, http_reply, http_reply_of, status_of};
 ghost use Rattle.arrivals.specs.Meaning.{entry_with};
 ghost use Rattle.job_facts.specs.Kept.{kept_reply};
-ghost use Rattle.job_facts.specs.Store.{Commits, CountsFaults};
+ghost use Rattle.job_facts.specs.Store.{Commits, CountsFaults, with_fault};
 ghost use Rattle.reply_store.specs.Effects.{IsOwedBy, after_effect, done};
 ghost use Rattle.reply_store.specs.Runs.{arrived};
 
 use crate::deciding::Effect;
 use arrivals::{Kept, body_of, status_of};
-use job_facts::{Arrival, Entry, JobStore, Reply, StoreFault};
+use job_facts::{Arrival, Entry, Failed, JobStore, Reply, StoreFault};
 use std::alloc::{AllocError, Global};
 
 /// Returns the response with `reply`.
@@ -68,7 +68,15 @@ fn put<S: JobStore>(store: &mut S, entry: &Entry<'_>, effect: &Effect<'_>) -> Re
     ensures faults { CountsFaults (S.state store.old) (S.state store.new) result }
 {
     match effect {
-        Effect::Changes { change } => store.commit(entry, change),
-        Effect::Marks { upto } => store.release(entry, *upto),
+        Effect::Changes { change } => fault_in(store.commit(entry, change)),
+        Effect::Marks { upto } => fault_in(store.release(entry, *upto)),
     }
+}
+
+// Returns the result with only the reason of a failure. A store that keeps a request log will also
+// need `undone`.
+fn fault_in(stored: Result<(), Failed<StoreFault>>) -> Result<(), StoreFault>
+    ensures { result ≡ with_fault stored }
+{
+    stored.map_err(|failed| failed.fault)
 }
