@@ -3,10 +3,10 @@ ghost use Rattle.std.specs.Prelude.{◌≡◌, IfErr, OnErr, OnOk, Some, false, 
 ghost use Rattle.job_facts.specs.declared.store.StoreFault.TheVariants.{Device as DeviceFault};
 ghost use Rattle.job_facts.specs.declared.store.StoreFault.TheVariants.{Full as FullFault};
 ghost use Rattle.job_facts.specs.Store.{one_more};
-ghost use Rattle.faulty_store.specs.declared.device.Fault.TheVariants.{Failed};
+ghost use Rattle.faulty_store.specs.declared.device.Fault.TheVariants.{Failed as FailedFault};
 ghost use Rattle.faulty_store.specs.Faulty.{ends, left, struck};
 
-use job_facts::StoreFault;
+use job_facts::{Failed, StoreFault};
 
 /// A fault of the device.
 #[derive(Clone, Copy)]
@@ -51,7 +51,7 @@ impl Device {
     /// every step.
     pub(crate) fn strike(&mut self) -> Option<Fault>
         ensures plan { self.new ≡ record self.old { plan = self.new.plan } }
-        ensures shut { self.old.is_shut ≡ true → result ≡ Some Failed }
+        ensures shut { self.old.is_shut ≡ true → result ≡ Some FailedFault }
         ensures planned { self.old.is_shut ≡ false → result ≡ struck self.old.plan }
         ensures left { self.old.is_shut ≡ false → self.new.plan ≡ left self.old.plan }
     {
@@ -102,10 +102,12 @@ impl Device {
     }
 
     /// Ends a write that has reached the device. Returns `Device` and shuts the store if the
-    /// planned fault strikes now.
-    pub(crate) fn end_write(&mut self) -> Result<(), StoreFault>
+    /// planned fault strikes now. The write isn't undone.
+    pub(crate) fn end_write(&mut self) -> Result<(), Failed<StoreFault>>
         ensures ok { OnOk result ((self.new ≡ self.old) × (ends self.old.plan ≡ false)) }
-        ensures err { IfErr result (λ fault. (fault ≡ DeviceFault) × (ends self.old.plan ≡ true)) }
+        ensures err { IfErr result (λ failed. (failed.fault ≡ DeviceFault)
+            × (ends self.old.plan ≡ true)) }
+        ensures undone { IfErr result (λ failed. failed.undone ≡ false) }
         ensures shut { OnErr result (self.new ≡ record self.old {
           plan = self.new.plan;
           failed = one_more self.old.failed;
@@ -120,7 +122,11 @@ impl Device {
                 },
             ) => {
                 self.plan = None;
-                Err(self.fail())
+                let fault = self.fail();
+                Err(Failed {
+                    fault,
+                    undone: false,
+                })
             }
             _ => Ok(()),
         }

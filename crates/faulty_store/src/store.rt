@@ -1,8 +1,8 @@
 //! A store of lists with a faulty device.
 use crate::device::{Device, Fault, Plan};
 use job_facts::{
-    BatchRow, BatchSize, BatchTotals, BlankTotals, Change, Entry, FaultCounts, JobStore, KeptReply,
-    Lot, RecordLine, RecordState, SegmentRow, ServerStore, SessionRow, StoreFault,
+    BatchRow, BatchSize, BatchTotals, BlankTotals, Change, Entry, Failed, FaultCounts, JobStore,
+    KeptReply, Lot, RecordLine, RecordState, SegmentRow, ServerStore, SessionRow, StoreFault,
 };
 use list_store::ListStore;
 use std::alloc::Global;
@@ -225,13 +225,13 @@ impl JobStore for FaultyStore {
         self.lists.mark(client)
     }
 
-    fn commit(&mut self, entry: &Entry<'_>, change: &Change<'_>) -> Result<(), StoreFault> {
+    fn commit(&mut self, entry: &Entry<'_>, change: &Change<'_>) -> Result<(), Failed<StoreFault>> {
         self.turn()?;
         self.lists.commit(entry, change)?;
         self.device.end_write()
     }
 
-    fn release(&mut self, entry: &Entry<'_>, mark: u64) -> Result<(), StoreFault> {
+    fn release(&mut self, entry: &Entry<'_>, mark: u64) -> Result<(), Failed<StoreFault>> {
         self.turn()?;
         self.lists.release(entry, mark)?;
         self.device.end_write()
