@@ -7,11 +7,12 @@ ghost use Rattle.sql_rows.specs.Image.{Moves};
 ghost use Rattle.sql_rows.specs.Writes.{Writes};
 ghost use Rattle.table_rows.specs.After.{rows_written};
 ghost use Rattle.job_facts.specs.Kept.{kept_reply};
+ghost use Rattle.change_writes.specs.Undone.{LeavesNoTraceIfUndone};
 ghost use Rattle.change_writes.specs.Writable.{IsWritable};
 
 use crate::changes::write_change;
 use crate::writable::is_writable;
-use job_facts::Entry;
+use job_facts::{Entry, Failed};
 use row_writes::add_reply;
 use sql_base::laws;
 use sqlite::{Alter, Connection, Error, Transaction};
@@ -42,12 +43,14 @@ fn write_all<S: Alter>(
 /// - `InvalidQuery` if a number of `writing` is 2^63 or higher, or the batch file of an import has
 ///   a fault
 /// - any error of the database, including out of memory
+///
+/// A failure is `undone` unless the commit of the transaction itself fails.
 pub fn commit<S: Alter>(
     conn: &mut Connection<S>,
     alloc: Global,
     entry: &Entry<'_>,
     writing: &Writing<'_>,
-) -> Result<(), Error>
+) -> Result<(), Failed<Error>>
     requires most { entry.now.number < 10 ^ 18 }
     requires idle { conn.old.in_transaction ≡ false }
     ensures ok { HasCleanDisk (state S.Store conn.new) → OnOk result
@@ -60,12 +63,16 @@ pub fn commit<S: Alter>(
     ensures crash { Survives (state S.Store conn.old) (state S.Store conn.new)
         (IsLeft (Moves (rows_written writing.now (kept_reply entry.now)))
         (state S.Store conn.old)) }
+    ensures undone { LeavesNoTraceIfUndone (state S.Store conn.old) (state S.Store conn.new) result }
 {
     if !is_writable(writing) {
-        return Err(Error::InvalidQuery);
+        return Err(Failed::from(Error::InvalidQuery));
     }
     laws::is_committed(conn);
     let mut tx = conn.transaction();
     write_all(&mut tx, alloc, entry, writing)?;
-    tx.commit()
+    tx.commit().map_err(|fault| Failed {
+        fault,
+        undone: false,
+    })
 }
