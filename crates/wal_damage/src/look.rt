@@ -1,9 +1,13 @@
 //! Examines the WAL of a database before SQLite opens the two files.
-ghost use Rattle.std.specs.Prelude.{◌≡◌, ◌+◌, ◌*◌, ◌-◌, ◌/◌, ◌<◌, ◌≤◌, ◌^◌, length, IfOk, OnOk, IsTrue};
+ghost use Rattle.std.specs.Prelude.{◌≡◌, ◌+◌, ◌*◌, ◌-◌, ◌/◌, ◌<◌, ◌≤◌, ◌^◌, length};
+ghost use Rattle.std.specs.Prelude.{IfErr, IfOk, OnOk, IsTrue};
+ghost use Rattle.std.specs.IoError.{error_kind};
+ghost use Rattle.sqlite_disk.specs.Disk.{CountsFault, CountsFaultIf};
 ghost use Rattle.sqlite_wal.specs.PageSize.{size_in_file};
 ghost use Rattle.sqlite_wal.specs.Reads.{AreClean, IsClean, OnlyReads};
 ghost use Rattle.sqlite_wal.specs.Recovery.{frame, frame_at, header};
 ghost use Rattle.wal_damage.specs.Damage.{is_cleared, is_page_size, look_at, look_to, page_size_of};
+ghost use Rattle.wal_damage.specs.Faults.{HasFailed, HasNotFailed, fault_of};
 
 use crate::format::{FRAME_HEADER_LEN, HEADER_LEN, be32_at, is_header};
 use crate::walk::{advance, begin, shown};
@@ -21,6 +25,8 @@ pub enum LookFault {
 }
 
 impl From<io::Error> for LookFault {
+    ghost from_gives = { λ error fault. fault ≡ fault_of (error_kind error) };
+
     fn from(error: io::Error) -> LookFault {
         if error.kind() == ErrorKind::OutOfMemory {
             LookFault::Memory
@@ -31,6 +37,10 @@ impl From<io::Error> for LookFault {
 }
 
 impl From<AllocError> for LookFault {
+    ghost use Rattle.wal_damage.specs.declared.look.LookFault.TheVariants.{Memory};
+
+    ghost from_gives = { λ _ fault. fault ≡ Memory };
+
     fn from(_error: AllocError) -> LookFault {
         LookFault::Memory
     }
@@ -71,6 +81,9 @@ pub fn look_at<D: Disk>(alloc: Global, files: &mut Files<D>) -> Result<Look, Loo
     requires db_usable { IsTrue (D.Disk.is_usable files.old.db) }
     ensures value { IfOk result (λ look. AreClean D.Disk files.new.log files.new.db
         → look ≡ look_at (D.Disk.seen files.old.db) (D.Disk.seen files.old.log)) }
+    ensures calm { IfOk result (λ _. HasNotFailed D.Disk files.old files.new) }
+    ensures cause { IfErr result (λ fault. fault ≡ LookFault.Failed
+        → HasFailed D.Disk files.old files.new) }
     ensures log { OnlyReads D.Disk files.old.log files.new.log }
     ensures db { OnlyReads D.Disk files.old.db files.new.db }
 {
@@ -110,6 +123,7 @@ fn page_size_of<D: Disk>(head: &[u8; 32], db: &mut D) -> io::Result<usize>
     requires { IsTrue (D.Disk.is_usable db.old) }
     ensures size { IfOk result (λ n. IsClean D.Disk db.new
         → n ≡ page_size_of (D.Disk.seen db.old) head.now) }
+    ensures faults { CountsFault result (D.Disk.faults db.old) (D.Disk.faults db.new) }
     ensures same { OnlyReads D.Disk db.old db.new }
 {
     if is_header(head) {
@@ -122,6 +136,7 @@ fn page_size_of<D: Disk>(head: &[u8; 32], db: &mut D) -> io::Result<usize>
 fn size_in<D: Disk>(db: &mut D) -> io::Result<usize>
     requires { IsTrue (D.Disk.is_usable db.old) }
     ensures size { IfOk result (λ n. IsClean D.Disk db.new → n ≡ size_in_file (D.Disk.seen db.old)) }
+    ensures faults { CountsFault result (D.Disk.faults db.old) (D.Disk.faults db.new) }
     ensures same { OnlyReads D.Disk db.old db.new }
 {
     if db.len()? < 18 {
@@ -148,6 +163,9 @@ fn look_in<D: Disk>(
     requires within { frame_at page_size frames < 2 ^ 64 }
     ensures value { IfOk result (λ look. IsClean D.Disk log.new
         → look ≡ look_to page_size (D.Disk.seen log.old) frames) }
+    ensures faults { CountsFaultIf
+        (IsClean D.Disk log.old → frame_at page_size frames ≤ length (D.Disk.seen log.old))
+        result (D.Disk.faults log.old) (D.Disk.faults log.new) }
     ensures same { OnlyReads D.Disk log.old log.new }
 {
     let mut walk = begin(head);
@@ -165,6 +183,9 @@ fn read_frame<D: Disk>(log: &mut D, page_size: usize, i: usize, buf: &mut [u8]) 
     requires within { frame_at page_size (i + 1) < 2 ^ 64 }
     ensures read { OnOk result (IsClean D.Disk log.new
         → buf.new ≡ frame page_size (D.Disk.seen log.old) i) }
+    ensures faults { CountsFaultIf
+        (IsClean D.Disk log.old → frame_at page_size (i + 1) ≤ length (D.Disk.seen log.old))
+        result (D.Disk.faults log.old) (D.Disk.faults log.new) }
     ensures same { OnlyReads D.Disk log.old log.new }
 {
     log.read_at(HEADER_LEN + i * (FRAME_HEADER_LEN + page_size), buf)?;

@@ -1,9 +1,15 @@
-use Rattle.std.proofs.Common.{◌≡◌, ◌+◌, ◌*◌, ◌-◌, ◌/◌, ◌≤◌, ℕ, List, length, sym, ap, ap₂, ◌∙◌, arith, rules}
+use Rattle.std.proofs.Common.{◌≡◌, ◌+◌, ◌*◌, ◌-◌, ◌/◌, ◌≤◌, ℕ, List, length, inl, sym, ap, ap₂, subst, ◌∙◌, arith, rules}
+use Rattle.std.specs.Prelude.{Err, IfErr, Ok, Result}
+use Rattle.sqlite_disk.specs.Disk.{MoreFaults}
+use Rattle.sqlite_disk.specs.declared.Files.{Files}
 use Rattle.std.proofs.Math.Nat.{div-mul-le_self}
 use Rattle.sqlite_wal.specs.Recovery.{frame_at, frames_len, header}
 use Rattle.sqlite_wal.proofs.CleanLemmas.{halves}
 use Rattle.sqlite_wal.proofs.PartLemmas.{held_is_part}
 use Rattle.wal_damage.specs.Damage.{is_cleared, is_page_size, look_to, page_size_of}
+use Rattle.wal_damage.specs.Faults.{HasFailed}
+use Rattle.wal_damage.specs.declared.look.LookFault.{LookFault}
+use Rattle.wal_damage.specs.declared.look.LookFault.TheVariants.{Failed}
 use Rattle.wal_damage.proofs.WalkLemmas.{look_at_none, look_at_cleared, look_at_unsized, look_at_frames}
 use Rattle.wal_damage.proofs.look.look_at.Goals.{then-is_cleared-via-then-is_cleared, then-is_cleared-via-else-is_cleared+then-not-is_page_size}
 use Rattle.wal_damage.proofs.look.look_at.Goals as goal
@@ -61,3 +67,19 @@ returns-clause-value g c clean =
     c.in_ok-look_in.ensures.value (halves g.D.Disk c.look_in.new.log c.page_size_of.new.db clean).0
     ∙ ap₂ (λ (l : List ℕ) (n : ℕ). look_to size l n) same frames
     ∙ sym (look_at_frames db log size sized uncleared allowed)
+
+all_err : {A E : Type 0} (P : E → Type 0) (r : Result A E) → ((e : E) → P e) → IfErr r P
+all_err P (Ok x) all = tt
+all_err P (Err e) all = all e
+
+pub returns-in_err-look_in-clause-cause : goal.returns-in_err-look_in-clause-cause
+returns-in_err-look_in-clause-cause g c =
+    let size = c.in_ok-page_size.page_size in
+    let buf : c.len-2.result ≡ 24 + size = search rules in
+    let fits = frames_fit size c.in_ok-len.len _ (ap (λ (n : ℕ). (c.in_ok-len.len - 32) / n) buf) (omega arith) in
+    let seen = ap (λ (bytes : List ℕ). length bytes) (c.read_at.ensures.seen ∙ c.len.ensures.seen) in
+    let more = c.in_err-look_in.ensures.faults.0 (λ clean. omega (arith, fits, c.in_ok-len.ensures.len (c.read_at.ensures.clean clean), seen)) in
+    let was = c.in_ok-read_at.ensures.faults ∙ c.in_ok-len.ensures.faults in
+    let last : Files g.row.D.Denot = record { log = c.look_in.new.log; db = c.page_size_of.new.db } in
+    all_err (λ (fault : LookFault). fault ≡ Failed → HasFailed g.D.Disk c.args.files.now last) c.from_residual-in_err-look_in.result
+    (λ fault is. inl (subst (λ (n : ℕ). MoreFaults n (g.D.Disk.faults c.look_in.new.log)) was more))

@@ -7,3 +7,4 @@ abbrev pub invariant-loop-i : goal.invariant-loop-i
 invariant-loop-i g l =
     OnlyReads g.D.Disk l.fn.log l.log × (l.walk.lost ≤ l.i)
     × (IsClean g.D.Disk l.log → l.walk ≡ walk_to l.page_size (g.D.Disk.seen l.fn.log) l.i)
+    × (g.D.Disk.faults l.log ≡ g.D.Disk.faults l.fn.log)
