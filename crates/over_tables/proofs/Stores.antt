@@ -25,7 +25,8 @@ use Rattle.schema.specs.Left.{IsRefusal}
 use Rattle.schema.specs.Link.{link}
 use Rattle.over_tables.specs.Opens.{Begins, IsOpened}
 use Rattle.over_tables.specs.Faults.{of_open}
-use Rattle.over_tables.specs.Refusals.{Explains, IsDamaged, IsNotOurs, IsRefused, ReportsStorage}
+use Rattle.over_tables.specs.Refusals.{Explains, IsDamaged, IsNotOurs, IsOfStore, IsRefused, ReportsStorage}
+use Rattle.over_tables.specs.declared.fault.FileFault.{FileFault}
 use Rattle.over_tables.specs.declared.fault.FileFault.TheVariants.{Storage}
 use Rattle.over_tables.specs.declared.opening.Wanted.{Wanted}
 use Rattle.over_tables.specs.declared.opening.Wanted.TheVariants.{Any, Ours}
@@ -131,6 +132,18 @@ module _ (wanted : Wanted) (old new : sqlite.State) (e : OpenFault) where
     kept = λ clean was. stays clean;
     crash = λ clean d left. elim (late clean d left) [ inl may ↦ inl may | inr held ↦ inr (inr held) ];
   }
+
+-- A database isn't opened because of a fault of the store, before anything is done to it.
+pub refused_early : (wanted : Wanted) (old : sqlite.State) (fault : FileFault) → IsOfStore fault → IsRefused wanted old old fault
+refused_early wanted old fault (own, is) = subst (IsRefused wanted old old) (sym is) (record {
+  clean = λ clean. clean;
+  not_empty = λ it. absurd (not_named (open_fault.Store own) (λ d named. absurd (cc named)) it);
+  not_ours = λ clean it. absurd (not_named (open_fault.Store own) (λ d named. absurd (cc named)) it);
+  damaged = λ clean it. absurd (not_damaged (open_fault.Store own) (λ d unread. absurd (cc unread)) it);
+  why = λ clean. explains old.now (open_fault.Store own) (λ d named. absurd (cc named)) (λ d unread. absurd (cc unread));
+  kept = λ clean was. record { was_open = λ is_open. is_open; now_is = λ _. refl; committed_is = λ _. refl };
+  crash = λ clean d left. inl left;
+})
 
 -- Only a refusal is reported as one.
 pub refusal : (e : OpenFault) → IsNotOurs (of_open e) ⊎ IsDamaged (of_open e) → IsRefusal e

@@ -1,5 +1,5 @@
 -- When a new store is created, and the contents of an opened store (this project's profile).
-use Rattle.std.specs.Prelude.{◌≡◌, ◌⊎◌, ℕ, Option, Some, None, IfSome}
+use Rattle.std.specs.Prelude.{◌≡◌, ◌⊎◌, ℕ, Option, Some, None}
 use Rattle.sqlite.specs.Effect.{Database}
 use Rattle.job_facts.specs.Contents.{AreSound, Contents, no_contents}
 use Rattle.job_facts.specs.Reopening.{OpensWith}
@@ -43,7 +43,12 @@ older_number (Some One) = Some 1
 older_number (Some Two) = Some 2
 older_number (Some Three) = None
 
--- `older` is the number of the schema version of the database, if the version was found and is
--- older than the current one
+-- The database has the tables of this version, or of no version.
+abbrev pub HasTablesOf : Database → Option Version → Type 0
+HasTablesOf db None = (v : Version) → ¬ HasExactly db.schema (schema_of v)
+HasTablesOf db (Some v) = HasExactly db.schema (schema_of v)
+
+-- `older` is the number of the schema version of the database if it is older than the current one,
+-- and `None` if it is the current one or if the database has the tables of no version
 abbrev pub IsOlder : Database → Option ℕ → Type 0
-IsOlder db older = (found : Option Version) × IfSome found (λ v. HasExactly db.schema (schema_of v)) × (older ≡ older_number found)
+IsOlder db older = (found : Option Version) × HasTablesOf db found × (older ≡ older_number found)

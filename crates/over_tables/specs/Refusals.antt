@@ -45,6 +45,10 @@ Explains db (Damaged damage) = SaysWhat db damage
 Explains db Storage = Unit {0}
 Explains db Memory = Unit {0}
 
+-- The fault is a fault of the store, and no refusal.
+abbrev pub IsOfStore : FileFault → Type 0
+IsOfStore fault = (own : StoreFault) × (fault ≡ of_store own)
+
 -- A fault of the store was reported as `Storage`, with its cause.
 abbrev pub ReportsStorage : {S : Type 0} → Ghosts S → State → State → Type 0
 ReportsStorage g old new = (own : StoreFault) × (of_store own ≡ Storage) × IsCaused g old new own

@@ -8,9 +8,11 @@ ghost use Rattle.schema.specs.Left.{TakesAt};
 ghost use Rattle.schema.specs.Link.{FindsAtOpen};
 ghost use Rattle.schema.specs.Stores.{connection, stands_for};
 ghost use Rattle.over_tables.specs.Opens.{Begins, IsOlder, IsOpened, older_number};
-ghost use Rattle.over_tables.specs.Refusals.{IsDamaged, IsNotOurs, IsRefused, ReportsStorage};
+ghost use Rattle.over_tables.specs.Refusals.{IsDamaged, IsNotOurs, IsOfStore, IsRefused};
+ghost use Rattle.over_tables.specs.Refusals.{ReportsStorage};
 
 use crate::fault::FileFault;
+use adoption::fault_of;
 use schema::SqlStore;
 use sql_base::is_empty;
 use sql_tables::{Version, VersionMatch, version_in};
@@ -38,14 +40,20 @@ pub fn begins<S: Alter>(conn: &Connection<S>, wanted: Wanted) -> bool
     }
 }
 
-/// Returns the number of the schema version of the database if it is older than the current one,
-/// for an event line. The result is also `None` if an allocation fails.
-pub fn older_version<S: Alter>(alloc: Global, conn: &Connection<S>) -> Option<u8>
-    ensures { IsOlder (state S.Store conn.now).now result }
+/// Returns the number of the schema version of the database, for an event line, if the version is
+/// older than the current one. The result is `None` if the database has other tables.
+///
+/// # Errors
+///
+/// - `Memory`: an allocation fails.
+/// - `Storage`: the tables of a version can't be created in memory for another reason.
+pub fn older_version<S: Alter>(alloc: Global, conn: &Connection<S>) -> Result<Option<u8>, FileFault>
+    ensures exact { IfOk result (IsOlder (state S.Store conn.now).now) }
+    ensures failed { IfErr result IsOfStore }
 {
     match version_in(alloc, conn) {
-        Ok(found) => older_number(version_of(found)),
-        Err(_) => None,
+        Ok(found) => Ok(older_number(version_of(found))),
+        Err(error) => Err(FileFault::from(fault_of(error))),
     }
 }
 

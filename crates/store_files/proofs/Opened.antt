@@ -1,6 +1,6 @@
 -- Lemmas: a database that SQLite opens, or fails to open, in two files whose WAL was examined
 -- before.
-use Rattle.std.proofs.Common.{◌≡◌, ◌∙◌, ◌↔◌, ◌<◌, ap₂, cond, subst, ℕ, Bool, true, false, IsTrue, List, length, Option, Some, None}
+use Rattle.std.proofs.Common.{◌≡◌, ◌⊎◌, ◌∙◌, ◌↔◌, ◌<◌, ap₂, cond, inl, inr, refl, subst, ℕ, Bool, true, false, IsTrue, List, length, Option, Some, None}
 use Rattle.std.proofs.lemmas.Bool.{and_from, and_parts}
 use Rattle.sqlite.specs.Files.{Finds, file_state, image_of}
 use Rattle.sqlite.specs.Held.{Held}
@@ -9,6 +9,7 @@ use Rattle.sqlite.specs.Start.{FindsIn}
 use Rattle.sqlite.specs.State.{HasCleanDisk}
 use Rattle.sqlite.specs.WalReads.{AreClean, IsClean, OnlyReads}
 use Rattle.sqlite.specs.declared.FileStore.{FileStore}
+use Rattle.sqlite_disk.specs.Disk.{MoreFaults}
 use Rattle.sqlite_disk.specs.Events.{Event, replay}
 use Rattle.sqlite_disk.specs.declared.Disk.{Ghosts}
 use Rattle.sqlite_disk.specs.declared.Files.{Files}
@@ -18,11 +19,14 @@ use Rattle.sqlite.specs.declared.error.Error.{Error}
 use Rattle.job_facts.specs.Store.{State}
 use Rattle.job_facts.specs.declared.store.StoreFault.{StoreFault}
 use Rattle.wal_damage.specs.Damage.{lost_commits}
+use Rattle.wal_damage.specs.declared.look.LookFault.{LookFault}
+use Rattle.wal_damage.specs.declared.look.LookFault.TheVariants.{Failed, Memory as OutOfMemory}
 use Rattle.over_tables.specs.declared.fault.FileFault.{FileFault}
+use Rattle.over_tables.specs.declared.fault.FileFault.TheVariants.{Memory, Storage}
 use Rattle.over_tables.specs.declared.opening.Wanted.{Wanted}
-use Rattle.store_files.specs.Files.{IsDamaged, MayHaveCommits, RunsOver}
+use Rattle.store_files.specs.Files.{MayHaveCommits, RunsOver}
 use Rattle.store_files.specs.declared.file.FileState.{FileState}
-use Rattle.store_files.specs.Wal.{FailsInGiven, FailsToBegin, IsWholeWal, RefusesWal, opens_none}
+use Rattle.store_files.specs.Wal.{FailsInGiven, FailsToBegin, IsWholeWal, RefusesWal, fault_of, opens_none}
 
 abbrev pub image : List ℕ → List ℕ → Image
 image log db = record { log = log; db = db }
@@ -49,10 +53,19 @@ fails_in g IsFresh first given fresh read error (Some left) named none some = re
   some = record { first = first; fresh = fresh; given = given; read = read; failed = some };
 }
 
--- The WAL of files that were just opened is damaged, or it couldn't be examined.
-pub damaged_in : {D : Type 0} (g : Ghosts D) (held : Image) (first given : Files D) → OnlyReads g first.log given.log → image_of g first ≡ held → (fault : FileFault) → RefusesWal (AreClean g given.log given.db) (g.seen first.db) (g.seen first.log) fault
-    → IsDamaged g held fault
-damaged_in g held first given read same fault refused = (given, subst (λ (i : Image). RefusesWal (AreClean g given.log given.db) i.db i.log fault) same refused)
+-- ---- a WAL that couldn't be examined
+
+-- It is reported as `Storage` only if a call to a file has failed.
+pub storage_or_memory : (fault : LookFault) (F : Type 0) → (fault ≡ Failed → F) → ((fault_of fault ≡ Storage) × F) ⊎ (fault_of fault ≡ Memory)
+storage_or_memory Failed F cause = inl (refl, cause refl)
+storage_or_memory OutOfMemory F cause = inr refl
+
+-- `mid` are the files before the length of the WAL was read, and no call had failed before.
+pub unread_length : {D : Type 0} (g : Ghosts D) (old mid new : Files D) → g.faults mid.log ≡ g.faults old.log → (fault : FileFault) → ((fault ≡ Storage) × MoreFaults (g.faults mid.log) (g.faults new.log)) ⊎ (fault ≡ Memory) → RefusesWal g old new fault
+unread_length g old mid new same fault (inl it) = inr (inl (it.0, inl (subst (λ (n : ℕ). MoreFaults n (g.faults new.log)) same it.1)))
+unread_length g old mid new same fault (inr it) = inr (inr it)
+
+-- ---- files that were read
 
 -- A file that is read twice is only read.
 pub reads_on : {D : Type 0} (g : Ghosts D) (a b c : D) → OnlyReads g a b → OnlyReads g b c → OnlyReads g a c

@@ -1,9 +1,9 @@
 -- The effect of `with_store` on the database file at a path: its task ran over the store, or the
 -- fault says why it didn't.
-use Rattle.std.specs.Prelude.{◌≡◌, ◌⊎◌, ◌↔◌, ◌<◌, Bool, false, IsTrue, Option, Result, length}
+use Rattle.std.specs.Prelude.{◌≡◌, ◌⊎◌, ◌↔◌, ◌<◌, Bool, true, false, IsTrue, Option, Result, length}
 use Rattle.std.specs.declared.alloc.AllocError.{AllocError}
 use Rattle.sqlite.specs.FileStore.{view}
-use Rattle.sqlite.specs.Files.{IsBlankAs, IsOpened, file_state, over_files}
+use Rattle.sqlite.specs.Files.{IsBlankAs, IsOpened, file_state, image_of, over_files}
 use Rattle.sqlite.specs.Held.{Held}
 use Rattle.sqlite.specs.Recovery.{Image}
 use Rattle.sqlite.specs.Start.{FindsIn}
@@ -13,7 +13,6 @@ use Rattle.sqlite.specs.declared.error.Error.{Error}
 use Rattle.sqlite.specs.declared.file.Leftover.{Leftover}
 use Rattle.sqlite_disk.specs.declared.Disk.{Ghosts}
 use Rattle.sqlite_disk.specs.declared.Files.{Files}
-use Rattle.sqlite.specs.WalReads.{AreClean}
 use Rattle.job_facts.specs.Store.{State}
 use Rattle.job_facts.specs.declared.store.StoreFault.{StoreFault}
 use Rattle.schema.specs.Stores.{connection, stands_for}
@@ -79,14 +78,18 @@ module _ {D : Type 0} (g : Ghosts D) where
     pub cause : fault ≡ of_opening error place
     pub failed : FailsToBegin g IsFresh error left
 
-  -- The WAL of the two files is damaged, or it couldn't be examined. SQLite wasn't called with the
-  -- files.
-  abbrev pub IsDamaged : Image → FileFault → Type 0
-  IsDamaged image fault = (files : Files D) × RefusesWal (AreClean g files.log files.db) image.db image.log fault
+  -- Two files with the bytes `image` were opened. Their WAL is damaged, or it couldn't be examined.
+  -- SQLite wasn't called with the files.
+  pub record IsDamaged (image : Image) (IsFresh : Bool → D → Type 0) (fault : FileFault) : Type 0 where
+    pub first : Files D
+    pub fresh : IsFresh true first.log × IsFresh false first.db
+    pub bytes : image_of g first ≡ image
+    pub last : Files D
+    pub refused : RefusesWal g first last fault
 
   -- The fault says why no database is opened.
   abbrev pub IsNotBegun : Image → (Bool → D → Type 0) → FileFault → Type 0
-  IsNotBegun image IsFresh fault = IsUnopened IsFresh fault ⊎ IsDamaged image fault
+  IsNotBegun image IsFresh fault = IsUnopened IsFresh fault ⊎ IsDamaged image IsFresh fault
 
   -- The fault says why no task ran.
   abbrev pub IsNotTaken : Image → (Bool → D → Type 0) → Wanted → FileFault → Type 0

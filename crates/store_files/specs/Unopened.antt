@@ -1,16 +1,34 @@
 -- The faults for files that SQLite doesn't open. They depend on its error and on what the file
 -- system reports about the path (this project's profile).
 use Rattle.std.specs.Prelude.{false, Result, Ok, Err}
+use Rattle.std.specs.IoError.{error_kind}
 use Rattle.std.specs.declared.alloc.AllocError.{AllocError}
+use Rattle.std.specs.declared.io.ErrorKind.{ErrorKind}
+use Rattle.std.specs.declared.io.ErrorKind.TheVariants as kind
 use Rattle.sqlite.specs.declared.error.Error.{Error}
 use Rattle.sqlite.specs.declared.error.Error.TheVariants.{SqliteFailure}
 use Rattle.sqlite.specs.declared.error.ErrorCode.TheVariants as code
+use Rattle.sqlite_std_file.specs.declared.pair.OpenError.{OpenError}
+use Rattle.sqlite_std_file.specs.declared.pair.OpenError.TheVariants as open_error
 use Rattle.over_tables.specs.declared.cause.Cause.{Cause}
 use Rattle.over_tables.specs.declared.cause.Cause.TheVariants as cause
 use Rattle.over_tables.specs.declared.fault.FileFault.{FileFault}
 use Rattle.over_tables.specs.declared.fault.FileFault.TheVariants.{NotOurs, Storage, Memory}
 use Rattle.store_files.specs.declared.place.Place.{Place}
 use Rattle.store_files.specs.declared.place.Place.TheVariants as place
+
+-- the error of SQLite for an error of the file system
+abbrev pub error_for : ErrorKind → Error
+error_for kind.OutOfMemory = SqliteFailure code.OutOfMemory
+error_for _ = SqliteFailure code.CannotOpen
+
+-- the error of SQLite for two files that couldn't be opened (`open_from` in the `sqlite` of the
+-- toolchain)
+abbrev pub error_of : OpenError → Error
+error_of open_error.OutOfMemory = SqliteFailure code.OutOfMemory
+error_of open_error.Busy = SqliteFailure code.DatabaseBusy
+error_of open_error.HotJournal = SqliteFailure code.CannotOpen
+error_of (open_error.Io error) = error_for (error_kind error)
 
 -- the fault for a file that doesn't exist and must not be created
 abbrev pub absent : Place → FileFault

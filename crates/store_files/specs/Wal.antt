@@ -1,10 +1,10 @@
 -- The refusal of two files with a damaged WAL, before SQLite opens their database.
-use Rattle.std.specs.Prelude.{◌≡◌, ◌⊎◌, ◌<◌, ℕ, Bool, true, false, IsTrue, List, Option, None, IfSome, Result}
+use Rattle.std.specs.Prelude.{◌≡◌, ◌⊎◌, ◌<◌, ℕ, Bool, true, false, IsTrue, Option, None, IfSome, Result}
 use Rattle.std.specs.declared.alloc.AllocError.{AllocError}
 use Rattle.sqlite.specs.Files.{FailsToOpenFiles, IsCleanLeft, LeavesFiles}
 use Rattle.sqlite.specs.Opening.{is_open_error}
 use Rattle.sqlite.specs.Recovery.{Image}
-use Rattle.sqlite.specs.WalReads.{OnlyReads}
+use Rattle.sqlite.specs.WalReads.{AreClean, OnlyReads}
 use Rattle.sqlite.specs.declared.error.Error.{Error}
 use Rattle.sqlite.specs.declared.error.Error.TheVariants.{SqliteFailure}
 use Rattle.sqlite.specs.declared.error.ErrorCode.TheVariants as code
@@ -12,6 +12,9 @@ use Rattle.sqlite.specs.declared.file.Leftover.{Leftover}
 use Rattle.sqlite_disk.specs.declared.Disk.{Ghosts}
 use Rattle.sqlite_disk.specs.declared.Files.{Files}
 use Rattle.wal_damage.specs.Damage.{lost_commits}
+use Rattle.wal_damage.specs.Faults.{HasFailed}
+use Rattle.wal_damage.specs.declared.look.LookFault.{LookFault}
+use Rattle.wal_damage.specs.declared.look.LookFault.TheVariants as look
 use Rattle.over_tables.specs.declared.cause.Cause.TheVariants.{DamagedWal}
 use Rattle.over_tables.specs.declared.fault.FileFault.{FileFault}
 use Rattle.over_tables.specs.declared.fault.FileFault.TheVariants.{NotOurs, Storage, Memory}
@@ -43,12 +46,19 @@ IsOfOpening fault = (error : Error) × (place : Result Place AllocError) × IsTr
 abbrev pub IsOfLook : FileFault → Type 0
 IsOfLook fault = IsOfWal fault ⊎ IsOfOpening fault
 
--- the fault is that the WAL with the bytes `log` has lost durable commits, and their number, or
--- that it couldn't be read
-abbrev pub RefusesWal : Type 0 → List ℕ → List ℕ → FileFault → Type 0
-RefusesWal Clean db log fault =
-    ((commits : ℕ) × (0 < commits) × (fault ≡ NotOurs (DamagedWal commits)) × (Clean → commits ≡ lost_commits db log))
-    ⊎ ((fault ≡ Storage) ⊎ (fault ≡ Memory))
+-- the fault for a WAL that couldn't be examined
+abbrev pub fault_of : LookFault → FileFault
+fault_of look.Failed = Storage
+fault_of look.Memory = Memory
+
+-- `old` and `new` are two files before and after their WAL was examined. The fault is that the WAL
+-- has lost durable commits, and their number, or that it couldn't be read: a call to one of the
+-- files has failed, or an allocation.
+abbrev pub RefusesWal : {D : Type 0} → Ghosts D → Files D → Files D → FileFault → Type 0
+RefusesWal g old new fault =
+    ((commits : ℕ) × (0 < commits) × (fault ≡ NotOurs (DamagedWal commits))
+    × (AreClean g new.log new.db → commits ≡ lost_commits (g.seen old.db) (g.seen old.log)))
+    ⊎ (((fault ≡ Storage) × HasFailed g old new) ⊎ (fault ≡ Memory))
 
 -- `left` is left of the files `given` if SQLite opens no database in them
 abbrev pub FailsInGiven : {D : Type 0} {g : Ghosts D} → Files D → Error → Option (Leftover D g) → Type 0

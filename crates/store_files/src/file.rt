@@ -104,7 +104,10 @@ fn run_over<T: StoreTask + Drop, D: Disk + Drop>(
     ensures turned_down { IfErr result (IsTurnedDown conn wanted) }
 {
     let is_new = begins(&conn, wanted);
-    let older = older_version(alloc, &conn);
+    let older = match older_version(alloc, &conn) {
+        Ok(older) => older,
+        Err(fault) => return Err(fault),
+    };
     match store_over(alloc, conn, wanted) {
         Ok(store) => Ok(task.perform(
             store,

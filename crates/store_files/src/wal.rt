@@ -1,6 +1,7 @@
 //! Opens the two files of a database, unless their WAL is damaged.
 ghost use Rattle.std.specs.Prelude.{◌≡◌, ◌⊎◌, ◌↔◌, ◌<◌, codes, true, false, length, None};
 ghost use Rattle.std.specs.Prelude.{IfErr, IfOk, IsErrAnd, IsTrue, OnOk};
+ghost use Rattle.sqlite_disk.specs.Disk.{MoreFaults};
 ghost use Rattle.sqlite.specs.FileStore.{view};
 ghost use Rattle.sqlite.specs.Files.{Finds, IsBlankAs, IsOpened, file_state, image_of};
 ghost use Rattle.sqlite.specs.Start.{FindsIn};
@@ -10,9 +11,12 @@ ghost use Rattle.sqlite.specs.WalReads.{AreClean, IsClean, OnlyReads};
 ghost use Rattle.sqlite.specs.Opening.{is_open_error};
 ghost use Rattle.sqlite_std_file.specs.File.{IsFresh, file_is_usable};
 ghost use Rattle.wal_damage.specs.Damage.{lost_commits};
+ghost use Rattle.wal_damage.specs.Faults.{HasNotFailed};
 ghost use Rattle.over_tables.specs.Refusals.{IsNotOurs};
 ghost use Rattle.store_files.specs.Files.{IsNotBegun, MayHaveCommits};
-ghost use Rattle.store_files.specs.Wal.{FailsInGiven, IsOfLook, IsWholeWal, RefusesWal, opens_none};
+ghost use Rattle.store_files.specs.Unopened.{error_of};
+ghost use Rattle.store_files.specs.Wal.{FailsInGiven, IsOfLook, IsWholeWal, RefusesWal, fault_of};
+ghost use Rattle.store_files.specs.Wal.{opens_none};
 
 use crate::faults::unopened;
 use crate::place::{EMPTY_LOG, has_log, is_missing, names_no_file, place_of};
@@ -22,7 +26,7 @@ use sqlite_disk::{Disk, Files, Start, Unknown};
 use sqlite_std_file::OpenError;
 use std::alloc::{AllocError, Global};
 use std::hash::{BuildHasher, RandomState};
-use std::io::{self, ErrorKind};
+use std::io::ErrorKind;
 use wal_damage::{Look, LookFault, look_at};
 
 const NO_MEMORY: Error = Error::SqliteFailure(ErrorCode::OutOfMemory);
@@ -43,8 +47,8 @@ pub fn refuse_damaged<D: Disk>(alloc: Global, files: &mut Files<D>) -> Result<()
     requires db_usable { IsTrue (D.Disk.is_usable files.old.db) }
     ensures whole { OnOk result (AreClean D.Disk files.new.log files.new.db
         → lost_commits (D.Disk.seen files.old.db) (D.Disk.seen files.old.log) ≡ 0) }
-    ensures refused { IfErr result (RefusesWal (AreClean D.Disk files.new.log files.new.db)
-        (D.Disk.seen files.old.db) (D.Disk.seen files.old.log)) }
+    ensures calm { OnOk result (HasNotFailed D.Disk files.old files.new) }
+    ensures refused { IfErr result (RefusesWal D.Disk files.old files.new) }
     ensures log { OnlyReads D.Disk files.old.log files.new.log }
     ensures db { OnlyReads D.Disk files.old.db files.new.db }
 {
@@ -54,8 +58,17 @@ pub fn refuse_damaged<D: Disk>(alloc: Global, files: &mut Files<D>) -> Result<()
             let cause = Cause::DamagedWal { commits };
             Err(FileFault::NotOurs { cause })
         }
-        Err(LookFault::Failed) => Err(FileFault::Storage),
-        Err(LookFault::Memory) => Err(FileFault::Memory),
+        Err(fault) => Err(fault_of(fault)),
+    }
+}
+
+// Returns the fault for a WAL that couldn't be examined.
+fn fault_of(fault: LookFault) -> FileFault
+    ensures { result ≡ fault_of fault }
+{
+    match fault {
+        LookFault::Failed => FileFault::Storage,
+        LookFault::Memory => FileFault::Memory,
     }
 }
 
@@ -109,29 +122,19 @@ fn is_suspect(rt: &HostRuntime, path: &str) -> bool {
     }
 }
 
-// Returns the fault for an error of reading the length of the WAL.
-fn fault_of_read(error: io::Error) -> FileFault
-    ensures { (result ≡ FileFault.Storage) ⊎ (result ≡ FileFault.Memory) }
-{
-    if error.kind() == ErrorKind::OutOfMemory {
-        FileFault::Memory
-    } else {
-        FileFault::Storage
-    }
-}
-
 // Returns `true` if the WAL is longer than after an ordinary exit.
 fn is_long<D: Disk>(log: &mut D) -> Result<bool, FileFault>
     requires { IsTrue (D.Disk.is_usable log.old) }
     ensures long { IfOk result (λ found. IsClean D.Disk log.new
         → (IsTrue found ↔ (41 < length (D.Disk.seen log.old)))) }
-    ensures failed { IfErr result
-        (λ fault. (fault ≡ FileFault.Storage) ⊎ (fault ≡ FileFault.Memory)) }
+    ensures failed { IfErr result (λ fault. ((fault ≡ FileFault.Storage)
+        × MoreFaults (D.Disk.faults log.old) (D.Disk.faults log.new))
+        ⊎ (fault ≡ FileFault.Memory)) }
     ensures same { OnlyReads D.Disk log.old log.new }
 {
     match log.len() {
         Ok(len) => Ok(len as u64 > EMPTY_LOG),
-        Err(error) => Err(fault_of_read(error)),
+        Err(error) => Err(fault_of(LookFault::from(error))),
     }
 }
 
@@ -144,8 +147,7 @@ fn examine<D: Disk>(alloc: Global, files: &mut Files<D>) -> Result<bool, FileFau
         → lost_commits (D.Disk.seen files.old.db) (D.Disk.seen files.old.log) ≡ 0) }
     ensures long { IfOk result (λ has_log. AreClean D.Disk files.new.log files.new.db
         → (IsTrue has_log ↔ (41 < length (D.Disk.seen files.old.log)))) }
-    ensures refused { IfErr result (RefusesWal (AreClean D.Disk files.new.log files.new.db)
-        (D.Disk.seen files.old.db) (D.Disk.seen files.old.log)) }
+    ensures refused { IfErr result (RefusesWal D.Disk files.old files.new) }
     ensures log { OnlyReads D.Disk files.old.log files.new.log }
     ensures db { OnlyReads D.Disk files.old.db files.new.db }
 {
@@ -247,9 +249,23 @@ pub fn files_at<S: Start>(
     }
     match sqlite_std_file::open(rt, path, start) {
         Ok(files) => Ok(files),
-        Err(OpenError::OutOfMemory) => Err(NO_MEMORY),
-        Err(OpenError::Busy) => Err(Error::SqliteFailure(ErrorCode::DatabaseBusy)),
-        Err(OpenError::Io(error)) if error.kind() == ErrorKind::OutOfMemory => Err(NO_MEMORY),
-        Err(_) => Err(CANNOT_OPEN),
+        Err(error) => Err(error_of(error)),
+    }
+}
+
+// Returns the error of SQLite for two files that couldn't be opened.
+fn error_of(error: OpenError) -> Error
+    ensures value { result ≡ error_of error }
+    ensures none { IsTrue (opens_none result) }
+    ensures named { IsTrue (is_open_error result) }
+{
+    match error {
+        OpenError::OutOfMemory => NO_MEMORY,
+        OpenError::Busy => Error::SqliteFailure(ErrorCode::DatabaseBusy),
+        OpenError::HotJournal => CANNOT_OPEN,
+        OpenError::Io(error) => match error.kind() {
+            ErrorKind::OutOfMemory => NO_MEMORY,
+            _ => CANNOT_OPEN,
+        },
     }
 }

@@ -1,7 +1,7 @@
 use Rattle.std.proofs.Common.{◌∙◌, false, ap₂, sym, subst, inl, inr}
 use Rattle.sqlite.specs.Files.{IsBlankAs}
 use Rattle.sqlite.specs.WalFiles.{image_at}
-use Rattle.store_files.proofs.Opened.{damaged_in, fails_in, found_in, image, long_in, same_image, seen, whole_in}
+use Rattle.store_files.proofs.Opened.{fails_in, found_in, image, long_in, same_image, seen, whole_in}
 use Rattle.store_files.proofs.wal.open_whole.Goals as goal
 
 pub returns-in-Ok-open_in-clause-found : goal.returns-in-Ok-open_in-clause-found
@@ -15,7 +15,7 @@ pub returns-in-Err-examine-clause-failed : goal.returns-in-Err-examine-clause-fa
 returns-in-Err-examine-clause-failed g c =
     let (log, db) = c.in-Ok.ensures.fresh in
     let first = ap₂ image (ap₂ (seen g.S.Start.log g.S.Start.db) log.0 log.1) (ap₂ (seen g.S.Start.log g.S.Start.db) db.0 db.1) in
-    inr (damaged_in _ (image_at g.S.Start) c.in-Ok.files c.examine.new.files c.examine.ensures.log first c.in-Err-examine.fault c.in-Err-examine.ensures.refused)
+    inr (record { first = c.in-Ok.files; fresh = (log, db); bytes = first; last = c.examine.new.files; refused = c.in-Err-examine.ensures.refused })
 
 pub returns-in-Ok-open_in-clause-sums : goal.returns-in-Ok-open_in-clause-sums
 returns-in-Ok-open_in-clause-sums g c clean blank =
