@@ -8,8 +8,6 @@ use Rattle.sqlite_disk.specs.Events.{Event, Model, replay, settled}
 use Rattle.sqlite_disk.specs.History.{MayLeave}
 use Rattle.sqlite_disk.specs.declared.Disk.{Ghosts}
 use Rattle.sqlite_disk.specs.declared.Files.{Files}
-use Rattle.over_tables.specs.declared.fault.FileFault.{FileFault}
-use Rattle.store_files.specs.Wal.{RefusesWal}
 use Rattle.store_files.proofs.Opened.{same_image}
 use Rattle.book_file.specs.Files.{AreOnlyRead}
 use Rattle.book_file.specs.Left.{HoldsStill}
@@ -33,10 +31,6 @@ module _ {D : Type 0} (g : Ghosts D) (image : Image) (first last : Files D) wher
     bytes = same_image g first last read.0 read.1 ∙ bytes;
     left = λ c may. left c (read.1.crash c may);
   }
-
-  -- The reason for refusing the WAL describes the bytes that it had.
-  pub damaged_now : OnlyReads g first.log last.log → image_of g first ≡ image → (fault : FileFault) → RefusesWal (AreClean g last.log last.db) (g.seen first.db) (g.seen first.log) fault → RefusesWal (AreClean g last.log last.db) image.db image.log fault
-  damaged_now read bytes fault refused = subst (λ (i : Image). RefusesWal (AreClean g last.log last.db) i.db i.log fault) bytes refused
 
 module _ {D : Type 0} (g : Ghosts D) (IsFresh : Bool → D → Type 0) (image : Image) (files : Files D) (is : AreOnlyRead g IsFresh image files) where
   pub holds_still : HoldsStill g image.db files.db

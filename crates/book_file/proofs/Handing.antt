@@ -1,6 +1,7 @@
 -- Lemmas: from what was read over a connection to the result with the two files.
 use Rattle.std.proofs.Common.{◌≡◌, ◌⊎◌, ◌∙◌, Bool, IsTrue, Option, Some, None, Result, Ok, Err, IfOk, IfErr, inl, inr, refl, sym, ap, subst, arith}
 use Rattle.std.proofs.Math.Logic.{∥∥₁_map}
+use Rattle.std.proofs.lemmas.Bool.{false≢true}
 use Rattle.std.specs.Prelude.{IfSome, MatchOption}
 use Rattle.sqlite.proofs.Theorems.{opens_again}
 use Rattle.sqlite.specs.Effect.{Database}
@@ -25,7 +26,7 @@ use Rattle.over_tables.specs.Refusals.{Explains}
 use Rattle.over_tables.specs.declared.fault.FileFault.{FileFault}
 use Rattle.over_tables.specs.declared.fault.FileFault.TheVariants.{Storage}
 use Rattle.store_files.specs.Wal.{IsWholeWal, opens_none}
-use Rattle.book_file.specs.Files.{FailsToOpen, HoldNow, InFiles, IsIn, IsReadOf, IsSaidOf, IsUnread}
+use Rattle.book_file.specs.Files.{FailsToOpen, HoldNow, InFiles, IsAnswer, IsIn, IsOfPath, IsReadOf, IsSaidOf, IsUnread}
 use Rattle.book_file.specs.Found.{IsFound}
 use Rattle.book_file.specs.Left.{IsLeft, IsLog, WereClosed, unguarded}
 use Rattle.book_file.specs.declared.book.Book.{Book}
@@ -97,6 +98,10 @@ module _ {A E F : Type 0} (answer : Result A E × Option F) (read : Result A E) 
   ]
 
 -- ---- the reasons why there is no book
+
+-- The fault was found before SQLite was called, and no files are returned.
+pub without_files : {D S : Type 0} {d : disk.Ghosts D} {s : start.Ghosts S} (g : disk.Ghosts (Guarded D S d s)) (IsFresh : Bool → D → Type 0) (fault : FileFault) → IsOfPath fault → IsAnswer g IsFresh (Err fault, None)
+without_files g IsFresh fault of = record { verdict = tt; given = λ ok. absurd (false≢true ok); left = tt; found = tt; refused = inl of }
 
 weaker : {A E : Type 0} (P Q : E → Type 0) (read : Result A E) → ((e : E) → P e → Q e) → IfErr read P → IfErr read Q
 weaker P Q (Ok x) f value = tt

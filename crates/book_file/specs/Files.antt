@@ -1,6 +1,6 @@
 -- The result of `book_in` for the file at a path: a book of the database that its two files held,
 -- or the fault that says why there is no book.
-use Rattle.std.specs.Prelude.{◌≡◌, ◌⊎◌, Bool, true, false, IfErr, IfOk, IsTrue, Option, Some, None, Result}
+use Rattle.std.specs.Prelude.{◌≡◌, ◌⊎◌, Bool, true, false, IfErr, IfOk, IfSome, IsOk, IsSome, IsTrue, Option, Some, None, Result}
 use Rattle.std.specs.declared.alloc.AllocError.{AllocError}
 use Rattle.sqlite.specs.Closing.{files_left}
 use Rattle.sqlite.specs.Effect.{Database, IsDatabase}
@@ -27,8 +27,8 @@ use Rattle.over_tables.specs.declared.fault.FileFault.TheVariants.{NotOurs, Stor
 use Rattle.store_files.specs.Unopened.{of_opening}
 use Rattle.store_files.specs.Wal.{IsOfLook, IsWholeWal, RefusesWal}
 use Rattle.store_files.specs.declared.place.Place.{Place}
-use Rattle.book_file.specs.Found.{IsFound}
-use Rattle.book_file.specs.Left.{IsLog, KeepsDatabase, WasToBeWritten, WereClosed, unguarded}
+use Rattle.book_file.specs.Found.{HasVerdict, IsFound}
+use Rattle.book_file.specs.Left.{HoldsStill, IsLog, KeepsDatabase, WasToBeWritten, WereClosed, unguarded}
 use Rattle.book_file.specs.declared.book.Book.{Book}
 use Rattle.book_file.specs.declared.guarded.Guarded.{Guarded}
 
@@ -100,8 +100,11 @@ module _ {D S : Type 0} {d : disk.Ghosts D} {s : start.Ghosts S} (g : disk.Ghost
 
   -- The WAL of the two files is damaged, or it couldn't be examined. SQLite wasn't called with the
   -- files.
-  abbrev pub IsDamaged : FileFault → Files D → Type 0
-  IsDamaged fault files = RefusesWal (AreClean d files.log files.db) s.db s.log fault
+  pub record IsDamaged (fault : FileFault) (files : Files D) : Type 0 where
+    pub first : Files D
+    pub fresh : IsFresh true first.log × IsFresh false first.db
+    pub bytes : image_of d first ≡ image_at s
+    pub refused : RefusesWal d first files fault
 
   -- SQLite opens no database in the files, and the fault says why.
   abbrev pub IsUnopened : FileFault → Files D → Type 0
@@ -118,3 +121,13 @@ module _ {D S : Type 0} {d : disk.Ghosts D} {s : start.Ghosts S} (g : disk.Ghost
   abbrev pub IsUnread : FileFault → Option (Files D) → Type 0
   IsUnread fault None = IsOfPath fault ⊎ ((fault ≡ Storage) × HasSwapped)
   IsUnread fault (Some files) = IsUnopened fault files ⊎ (IsDamaged fault files ⊎ InFiles d (image_at s) (λ db. Explains db fault) files)
+
+  -- The result of reading a database file, with its two files if they were opened: the book of the
+  -- database that they held, or the fault that says why there is no book. The files still have the
+  -- database file's contents, even after a crash.
+  pub record IsAnswer (answer : Result Book FileFault × Option (Files D)) : Type 0 where
+    pub verdict : IfOk answer.0 (λ book. HasVerdict book.tables book.failing)
+    pub given : IsOk answer.0 → IsSome answer.1
+    pub left : IfSome answer.1 (λ files. HoldsStill d s.db files.db)
+    pub found : IfOk answer.0 (λ book. IfSome answer.1 (InFiles d (image_at s) (λ db. IsFound db book)))
+    pub refused : IfErr answer.0 (λ fault. IsUnread fault answer.1)

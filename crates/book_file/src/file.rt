@@ -4,8 +4,8 @@ ghost use Rattle.sqlite.specs.WalFiles.{image_at};
 ghost use Rattle.sqlite.specs.WalReads.{AreClean};
 ghost use Rattle.sqlite_std_file.specs.File.{IsFresh};
 ghost use Rattle.store_files.specs.Wal.{IsWholeWal};
-ghost use Rattle.book_file.specs.Files.{AreOnlyRead, InFiles, IsOfPath, IsReadOf, IsUnread, empty};
-ghost use Rattle.book_file.specs.Found.{HasVerdict, IsFound};
+ghost use Rattle.book_file.specs.Files.{AreOnlyRead, IsAnswer, IsOfPath, IsReadOf, empty};
+ghost use Rattle.book_file.specs.Found.{HasVerdict};
 ghost use Rattle.book_file.specs.Left.{HoldsStill, IsLeft, IsLog, WereClosed, unguarded};
 
 use crate::book::Book;
@@ -51,14 +51,7 @@ pub type BookWithFiles<S> = (
 /// - `Storage`: the device of the file failed.
 /// - `Memory`: an allocation fails.
 pub fn book_in<S: Start>(rt: &HostRuntime, path: &str, start: S) -> BookWithFiles<S>
-    ensures verdict { IfOk result.0 (λ book. HasVerdict book.tables book.failing) }
-    ensures given { IsOk result.0 → IsSome result.1 }
-    ensures left { IfSome result.1
-        (λ files. HoldsStill ⟦<FileFrom<S> as Disk>⟧ S.Start.db files.db) }
-    ensures found { IfOk result.0 (λ book. IfSome result.1
-        (InFiles ⟦<FileFrom<S> as Disk>⟧ (image_at S.Start) (λ db. IsFound db book))) }
-    ensures refused { IfErr result.0
-        (λ fault. IsUnread ⟦<GuardedFile<S> as Disk>⟧ IsFresh fault result.1) }
+    ensures { IsAnswer ⟦<GuardedFile<S> as Disk>⟧ IsFresh result }
 {
     match place_of(rt, path) {
         Ok(Place::File { is_sqlite: _ }) => match refuse_blank(rt, path) {
@@ -117,14 +110,7 @@ fn is_blank<R: Files + AllocGlobal>(rt: &R, path: &str) -> Result<bool, AllocErr
 // before the WAL is examined until they are closed. SQLite gets them only if the WAL isn't damaged,
 // because it drops everything after the damage when it opens the files.
 fn book_at<S: Start>(rt: &HostRuntime, path: &str, start: S) -> BookWithFiles<S>
-    ensures verdict { IfOk result.0 (λ book. HasVerdict book.tables book.failing) }
-    ensures given { IsOk result.0 → IsSome result.1 }
-    ensures left { IfSome result.1
-        (λ files. HoldsStill ⟦<FileFrom<S> as Disk>⟧ S.Start.db files.db) }
-    ensures found { IfOk result.0 (λ book. IfSome result.1
-        (InFiles ⟦<FileFrom<S> as Disk>⟧ (image_at S.Start) (λ db. IsFound db book))) }
-    ensures refused { IfErr result.0
-        (λ fault. IsUnread ⟦<GuardedFile<S> as Disk>⟧ IsFresh fault result.1) }
+    ensures { IsAnswer ⟦<GuardedFile<S> as Disk>⟧ IsFresh result }
 {
     let mut files = match files_at(rt, path, start) {
         Ok(files) => files,
@@ -145,14 +131,7 @@ fn read_files<S: Start>(
     requires read { AreOnlyRead ⟦<FileFrom<S> as Disk>⟧ IsFresh (image_at S.Start) files }
     requires whole { AreClean ⟦<FileFrom<S> as Disk>⟧ files.log files.db
         → IsWholeWal (image_at S.Start) }
-    ensures verdict { IfOk result.0 (λ book. HasVerdict book.tables book.failing) }
-    ensures given { IsOk result.0 → IsSome result.1 }
-    ensures left { IfSome result.1
-        (λ files. HoldsStill ⟦<FileFrom<S> as Disk>⟧ S.Start.db files.db) }
-    ensures found { IfOk result.0 (λ book. IfSome result.1
-        (InFiles ⟦<FileFrom<S> as Disk>⟧ (image_at S.Start) (λ db. IsFound db book))) }
-    ensures refused { IfErr result.0
-        (λ fault. IsUnread ⟦<GuardedFile<S> as Disk>⟧ IsFresh fault result.1) }
+    ensures { IsAnswer ⟦<GuardedFile<S> as Disk>⟧ IsFresh result }
 {
     match open_guarded(rt, files) {
         Ok(conn) => {
