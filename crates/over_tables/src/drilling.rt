@@ -8,7 +8,6 @@ ghost use Rattle.drill.specs.Ends.{IsUnopened};
 ghost use Rattle.over_tables.specs.Drills.{DrillEnds};
 
 use drill::{DrillStop, drill_over, unopened};
-use job_facts::StoreFault;
 use schema::{OpenFault, SqlStore};
 use sqlite::{Connection, MemStore};
 use std::alloc::Global;
@@ -41,6 +40,7 @@ fn begun(alloc: Global) -> Result<SqlStore<MemStore>, DrillStop>
     match SqlStore::create(alloc, conn) {
         Ok(store) => Ok(store),
         Err((_, OpenFault::Store { fault })) => Err(unopened(fault)),
-        Err(_) => Err(unopened(StoreFault::Device)),
+        // The database is empty.
+        Err((_, _)) => unreachable!(),
     }
 }
