@@ -1,7 +1,7 @@
 //! Repeats calls that run out of memory. A test therefore has the same result if any single
 //! allocation fails, even one of its set-up. `bench/run refused` makes each allocation fail in
 //! turn.
-use job_facts::StoreFault;
+use job_facts::{Failed, StoreFault};
 use reports::AccountFault;
 use server::NextFault;
 use text_io::{RunStop, StreamFault};
@@ -15,6 +15,12 @@ pub(crate) trait MayBeOutOfMemory {
 impl MayBeOutOfMemory for StoreFault {
     fn is_memory(&self) -> bool {
         *self == StoreFault::Memory
+    }
+}
+
+impl MayBeOutOfMemory for Failed<StoreFault> {
+    fn is_memory(&self) -> bool {
+        self.fault.is_memory()
     }
 }
 
