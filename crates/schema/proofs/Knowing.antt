@@ -7,7 +7,6 @@ use Rattle.sqlite.specs.Effect.{Database}
 use Rattle.sqlite.specs.Held.{Held, state}
 use Rattle.sqlite.specs.Store.{Ghosts}
 use Rattle.sqlite.specs.State.{HasCleanDisk, State}
-use Rattle.sqlite.specs.declared.error.Error.{Error}
 use Rattle.job_facts.specs.Contents.{Entry, no_contents}
 use Rattle.table_rows.specs.After.{rows_written}
 use Rattle.table_rows.specs.Tables.{Tables}
@@ -41,7 +40,7 @@ module _ (w : Writing) (entry : Entry) (old new : State) (before after : Known) 
       record { rows = ∥∥₁_map (knows (early clean) (k.was_open live)).rows (λ it. (it.0, subst (IsImage it.0) (sym (k.now_is live)) it.1, stays it.0 it.2)) }
 
   pub knows_written : ((t : Tables) → IsAllKnownIn t before → IsAllKnownIn t after) → ((t : Tables) → IsAllKnownIn t before → IsAllKnownIn (rows_written w entry t) after)
-      → {X : Type 0} (r : Result X Error) → (HasCleanDisk new → OnOk r (Ends (Moves (rows_written w entry)) old new)) → (HasCleanDisk new → OnErr r (IsKept old new)) → Knows new after
+      → {X E : Type 0} (r : Result X E) → (HasCleanDisk new → OnOk r (Ends (Moves (rows_written w entry)) old new)) → (HasCleanDisk new → OnErr r (IsKept old new)) → Knows new after
   knows_written stays moves (Ok x) ok err = knows_made moves ok
   knows_written stays moves (Err e) ok err = knows_unmade stays err
 

@@ -8,9 +8,10 @@ use Rattle.sqlite.specs.declared.error.Error.{Error}
 use Rattle.sqlite_trees.specs.Objects.{catalog_tree}
 use Rattle.sqlite_catalog.specs.Listing.{Lists}
 use Rattle.sqlite_catalog.proofs.ReadLemmas.{lists_once}
+use Rattle.job_facts.specs.declared.failed.Failed.{Failed}
 use Rattle.job_facts.specs.declared.store.StoreFault.{StoreFault}
 use Rattle.job_facts.specs.Contents.{AreSame, AreSound, Contents, Entry}
-use Rattle.job_facts.specs.Store.{Commits, IsFound, Reads, Stays}
+use Rattle.job_facts.specs.Store.{AddsNoneIfUndone, Commits, IsFound, Reads, Stays, with_fault}
 use Rattle.table_rows.specs.Tables.{HaveSameRows, Tables}
 use Rattle.image_laws.specs.Image.{image}
 use Rattle.sql_base.specs.Ends.{Ends, IsKept, IsLeft}
@@ -18,8 +19,9 @@ use Rattle.sql_rows.specs.Image.{IsImage}
 use Rattle.sql_tables.specs.declared.versions.Version.TheVariants.{Three}
 use Rattle.table_reads.proofs.OneHeld.{one_held}
 use Rattle.table_reads.proofs.OurImage.{our_image_held}
+use Rattle.change_writes.specs.Undone.{LeavesNoTraceIfUndone}
 use Rattle.store_reads.specs.ReadsContents.{ReadsContents}
-use Rattle.schema.specs.Link.{FindsAtOpen, Has, HasAt, IsTranslated, link}
+use Rattle.schema.specs.Link.{FindsAtOpen, Has, HasAt, IsTranslated, IsTranslatedCommit, link}
 use Rattle.schema.specs.MovesContents.{MovesContents}
 
 -- ---- reads
@@ -27,11 +29,14 @@ use Rattle.schema.specs.MovesContents.{MovesContents}
 still : (old new : State) (c : Contents) (a b m n : ℕ) → IsKept old new → (link old a b).holds c → (link new m n).holds c
 still old new c a b m n k held = (held.0, λ live. subst (IsImage (image c)) (sym (k.now_is live)) (held.1 (k.was_open live)))
 
+adds_none : (old new : State) (a b m n : ℕ) → Survives old new (λ _. ⊥) → HasCleanDisk new → (d : Option Contents) → (link new m n).may_leave d → (link old a b).may_leave d
+adds_none old new a b m n survives honest d left = elim (survives.crash honest left.0 left.1) [ inl before ↦ (left.0, before, left.2) | inr none ↦ absurd none ]
+
 pub stays : (old new : State) (a b m n : ℕ) → Survives old new (λ _. ⊥) → (HasCleanDisk new → IsKept old new) → Stays (link old a b) (link new m n)
 stays old new a b m n survives kept = record {
   doubts = survives.clean;
   contents = λ honest c held. still old new c a b m n (kept honest) held;
-  crash = λ honest d left. elim (survives.crash honest left.0 left.1) [ inl before ↦ (left.0, before, left.2) | inr none ↦ absurd none ];
+  crash = adds_none old new a b m n survives;
   log = λ l none. absurd none;
 }
 
@@ -123,8 +128,15 @@ module _ (law : RowsLaw) (entry : Entry) (Owed : Contents → Type 0) (after : C
   }
 
   -- a success is a commit, and a fault leaves everything unchanged
-  pub translated_commits : (r : Result (Unit {0}) Error) (translated : Result (Unit {0}) StoreFault) → IsTranslated r translated → (HasCleanDisk new → OnOk r (Ends (MovesContents Owed after) old new))
-      → (HasCleanDisk new → OnErr r (IsKept old new)) → Commits (link old a b) (link new m n) translated entry Owed after
-  translated_commits (Ok u) translated is ok err = subst (λ t. Commits (link old a b) (link new m n) t entry Owed after) (sym is) (commits ok)
+  pub translated_commits : (r : Result (Unit {0}) (Failed Error)) (translated : Result (Unit {0}) (Failed StoreFault)) → IsTranslatedCommit r translated → (HasCleanDisk new → OnOk r (Ends (MovesContents Owed after) old new))
+      → (HasCleanDisk new → OnErr r (IsKept old new)) → Commits (link old a b) (link new m n) (with_fault translated) entry Owed after
+  translated_commits (Ok u) translated is ok err = subst (λ t. Commits (link old a b) (link new m n) (with_fault t) entry Owed after) (sym is) (commits ok)
   translated_commits (Err e) (Ok u) is ok err = absurd (cc)
-  translated_commits (Err e) (Err why) is ok err = fails why err
+  translated_commits (Err e) (Err failed) is ok err = fails failed.fault err
+
+-- a failure that is undone
+pub translated_undone : (old new : State) (a b m n : ℕ) (r : Result (Unit {0}) (Failed Error)) (translated : Result (Unit {0}) (Failed StoreFault)) → IsTranslatedCommit r translated → LeavesNoTraceIfUndone old new r
+    → AddsNoneIfUndone (link old a b) (link new m n) translated
+translated_undone old new a b m n (Ok u) translated is traceless = subst (AddsNoneIfUndone (link old a b) (link new m n)) (sym is) tt
+translated_undone old new a b m n (Err failed) translated is traceless =
+    subst (AddsNoneIfUndone (link old a b) (link new m n)) (sym is) (λ undone. adds_none old new a b m n (traceless undone))

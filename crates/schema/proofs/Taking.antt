@@ -3,7 +3,6 @@ use Rattle.std.proofs.Common.{ℕ, Result, Ok, Err, OnOk, IsTrue, subst, arith}
 use Rattle.std.proofs.lemmas.List.Sorted.{IsPermutation-cons}
 use Rattle.sqlite.specs.Effect.{Database}
 use Rattle.sqlite.specs.State.{HasCleanDisk, State, Survives}
-use Rattle.sqlite.specs.declared.error.Error.{Error}
 use Rattle.sqlite.proofs.StateLemmas.{survives_then, survives_weaker}
 use Rattle.job_facts.specs.declared.change.Change.{Change}
 use Rattle.job_facts.specs.declared.change.Change.TheVariants as change
@@ -55,7 +54,7 @@ release_taken law upto entry a b moves c sound owed holds =
 
 -- replaces one relation by another
 module _ (P Q : Database → Database → Type 0) (old new : State) (turns : (b : Database) → P old.now b → Q old.now b) where
-  pub ends_as : {X : Type 0} (r : Result X Error) → OnOk r (Ends P old new) → OnOk r (Ends Q old new)
+  pub ends_as : {X E : Type 0} (r : Result X E) → OnOk r (Ends P old new) → OnOk r (Ends Q old new)
   ends_as (Err e) k = tt
   ends_as (Ok x) k = record { made = turns new.now k.made; settled = k.settled; only = k.only; was_open = k.was_open; is_open = k.is_open }
 
@@ -68,7 +67,7 @@ module _ (P Q : Database → Database → Type 0) (old mid new : State) (kept : 
   takes : HasCleanDisk mid → (b : Database) → IsTrue mid.is_open → P mid.now b → Q old.now b
   takes clean b live it = turns clean live b (subst (λ a. P a b) ((kept clean).now_is live) it)
 
-  pub ends_then : {X : Type 0} (r : Result X Error) → HasCleanDisk mid → OnOk r (Ends P mid new) → OnOk r (Ends Q old new)
+  pub ends_then : {X E : Type 0} (r : Result X E) → HasCleanDisk mid → OnOk r (Ends P mid new) → OnOk r (Ends Q old new)
   ends_then (Err e) clean k = tt
   ends_then (Ok x) clean k = record {
     made = takes clean new.now k.was_open k.made;
@@ -95,7 +94,7 @@ module _ (reply : ReplyLaw) (law : ChangeLaw) (change : Change) (w : Writing) (e
   turns : HasCleanDisk mid → IsTrue mid.is_open → (b : Database) → Written old.now b → Taken old.now b
   turns clean live b = change_taken reply law change w entry old.now b (has clean live)
 
-  pub change_ends : {X : Type 0} (r : Result X Error) → HasCleanDisk mid → OnOk r (Ends Written mid new) → OnOk r (Ends Taken old new)
+  pub change_ends : {X E : Type 0} (r : Result X E) → HasCleanDisk mid → OnOk r (Ends Written mid new) → OnOk r (Ends Taken old new)
   change_ends = ends_then Written Taken old mid new kept before turns
 
   pub change_left : Survives mid new (IsLeft Written mid) → Survives old new (IsLeft Taken old)

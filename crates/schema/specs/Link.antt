@@ -5,6 +5,7 @@ use Rattle.sqlite.specs.State as sqlite
 use Rattle.sqlite.specs.Tree.{Trees}
 use Rattle.sqlite.specs.declared.error.Error.{Error}
 use Rattle.sqlite_trees.specs.View.{doubt}
+use Rattle.job_facts.specs.declared.failed.Failed.{Failed}
 use Rattle.job_facts.specs.declared.store.StoreFault.{StoreFault}
 use Rattle.job_facts.specs.Contents.{AreSound, Contents, no_contents}
 use Rattle.job_facts.specs.Store.{State}
@@ -49,3 +50,8 @@ link s failed full = record {
 abbrev pub IsTranslated : {T : Type 0} → Result T Error → Result T StoreFault → Type 0
 IsTranslated (Ok answer) translated = translated ≡ Ok answer
 IsTranslated (Err error) translated = translated ≡ Err (fault_for error)
+
+-- A success is returned unchanged, and an error is returned as its fault, with the same `undone`.
+abbrev pub IsTranslatedCommit : Result (Unit {0}) (Failed Error) → Result (Unit {0}) (Failed StoreFault) → Type 0
+IsTranslatedCommit (Ok answer) translated = translated ≡ Ok answer
+IsTranslatedCommit (Err failed) translated = translated ≡ Err (record { fault = fault_for failed.fault; undone = failed.undone })

@@ -5,6 +5,7 @@ ghost use Rattle.sqlite.specs.State.{HasCleanDisk, Survives};
 ghost use Rattle.job_facts.specs.Contents.{Entry as EntryValue, IsOwed, IsOwedRelease};
 ghost use Rattle.job_facts.specs.Contents.{committed, released};
 ghost use Rattle.sql_base.specs.Ends.{Ends, IsKept, IsLeft};
+ghost use Rattle.change_writes.specs.Undone.{LeavesNoTraceIfUndone};
 ghost use Rattle.change_writes.specs.Writable.{IsWritable};
 ghost use Rattle.store_reads.specs.Known.{IsAllKnownIn, Knows};
 ghost use Rattle.schema.specs.MovesContents.{MovesContents};
@@ -13,7 +14,7 @@ ghost use Rattle.job_facts.specs.Kept.{kept_reply};
 ghost use Rattle.table_rows.specs.Tables.{Tables};
 
 use change_writes::{commit, counters_after};
-use job_facts::{Change, Entry};
+use job_facts::{Change, Entry, Failed};
 use sqlite::{Alter, Connection, Error};
 use std::alloc::Global;
 use store_reads::{Known, writing_of};
@@ -38,15 +39,15 @@ fn note_counters(known: &mut Known, writing: &Writing<'_>)
 /// # Errors
 ///
 /// Returns the error of SQLite if a read or the transaction fails. The contents are then unchanged.
-/// An open after a crash finds what it could find before the call, or the contents with the change
-/// and the reply.
+/// An open after a crash finds what it could find before the call, or, unless the failure is
+/// `undone`, the contents with the change and the reply.
 pub(crate) fn keep<S: Alter>(
     conn: &mut Connection<S>,
     known: &mut Known,
     alloc: Global,
     entry: &Entry<'_>,
     change: &Change<'_>,
-) -> Result<(), Error>
+) -> Result<(), Failed<Error>>
     requires most { entry.now.number < 10 ^ 18 }
     requires idle { conn.old.in_transaction ≡ false }
     requires knows { Knows (state S.Store conn.old) known.old }
@@ -62,6 +63,7 @@ pub(crate) fn keep<S: Alter>(
         Survives (state S.Store conn.old) (state S.Store conn.new)
         (IsLeft (MovesContents (IsOwed change.now kept) (λ c. committed c change.now kept))
         (state S.Store conn.old)) }
+    ensures undone { LeavesNoTraceIfUndone (state S.Store conn.old) (state S.Store conn.new) result }
 {
     image_laws::rows_after_change();
     image_laws::rows_with_reply();
@@ -73,7 +75,7 @@ pub(crate) fn keep<S: Alter>(
             note_counters(known, &writing);
             Ok(())
         }
-        Err(error) => Err(error),
+        Err(error) => Err(Failed::from(error)),
     }
 }
 
@@ -83,14 +85,15 @@ pub(crate) fn keep<S: Alter>(
 /// # Errors
 ///
 /// Returns the error of SQLite if the transaction fails. The contents are then unchanged. An open
-/// after a crash finds what it could find before the call, or the contents after the release.
+/// after a crash finds what it could find before the call, or, unless the failure is `undone`, the
+/// contents after the release.
 pub(crate) fn release<S: Alter>(
     conn: &mut Connection<S>,
     known: &Known,
     alloc: Global,
     entry: &Entry<'_>,
     upto: u64,
-) -> Result<(), Error>
+) -> Result<(), Failed<Error>>
     requires most { entry.now.number < 10 ^ 18 }
     requires idle { conn.old.in_transaction ≡ false }
     requires knows { Knows (state S.Store conn.old) known.now }
@@ -106,6 +109,7 @@ pub(crate) fn release<S: Alter>(
         Survives (state S.Store conn.old) (state S.Store conn.new)
         (IsLeft (MovesContents (IsOwedRelease upto kept) (λ c. released c upto kept))
         (state S.Store conn.old)) }
+    ensures undone { LeavesNoTraceIfUndone (state S.Store conn.old) (state S.Store conn.new) result }
 {
     image_laws::rows_after_release();
     let client = *entry.client;

@@ -7,8 +7,8 @@ ghost use Rattle.schema.specs.Link.{link};
 use crate::faults::Counts;
 use crate::keeping::{keep, release};
 use job_facts::{
-    BatchRow, BatchSize, BatchTotals, BlankTotals, Change, Entry, FaultCounts, JobStore, KeptReply,
-    Lot, RecordLine, RecordState, SegmentRow, SessionRow, StoreFault,
+    BatchRow, BatchSize, BatchTotals, BlankTotals, Change, Entry, Failed, FaultCounts, JobStore,
+    KeptReply, Lot, RecordLine, RecordState, SegmentRow, SessionRow, StoreFault,
 };
 use sqlite::{Alter, Connection};
 use std::alloc::Global;
@@ -212,15 +212,15 @@ impl<S: Alter> JobStore for SqlStore<S> {
         self.counts.translated(answer)
     }
 
-    fn commit(&mut self, entry: &Entry<'_>, change: &Change<'_>) -> Result<(), StoreFault> {
+    fn commit(&mut self, entry: &Entry<'_>, change: &Change<'_>) -> Result<(), Failed<StoreFault>> {
         image_laws::same_rows_same_contents();
         let answer = keep(&mut self.conn, &mut self.known, self.alloc, entry, change);
-        self.counts.translated(answer)
+        self.counts.translated_commit(answer)
     }
 
-    fn release(&mut self, entry: &Entry<'_>, mark: u64) -> Result<(), StoreFault> {
+    fn release(&mut self, entry: &Entry<'_>, mark: u64) -> Result<(), Failed<StoreFault>> {
         image_laws::same_rows_same_contents();
         let answer = release(&mut self.conn, &self.known, self.alloc, entry, mark);
-        self.counts.translated(answer)
+        self.counts.translated_commit(answer)
     }
 }
